@@ -1,0 +1,44 @@
+-- Lists held in arrays: a bounded list with its length beside it, and an array that a loop fills from the front.
+use mathlib.Core.Path.{_≡_, refl, sym, ap, _∙_}
+use mathlib.Core.List.{List, [], _∷_, _++_, map, append-assoc}
+use Prim.Native.Nat.{ℕ, zero, suc, _+_, _-_, _≤_, _<_}
+use native.Mathlib.Numerals.{add-one}
+use native.Mathlib.Omega.{arith}
+use lib.ListN.{length, getD, take, drop, set, replicate, length-map, length-take, List·getD-map}
+use lib.Seq.{length-take-le, take-suc-set, take-all, set-at, getD-take, take-suc}
+
+-- ---- a list in an array of N, with its length n beside it
+module _ {A : Type 0} (N : ℕ) (items : List A) (n : ℕ) (full : length items ≡ N) where
+  pub append-room : (o : A) → n < N → take (n + 1) (set items n o) ≡ take n items ++ (o ∷ [])
+  append-room o h =
+      let j : n < length items = omega arith in
+      rw (add-one, take-suc-set items n o j)
+
+  pub count-room : n < N → n ≡ length (take n items)
+  count-room h = let k : n ≤ length items = omega arith in sym (length-take-le n items k)
+
+  pub count-full : N ≤ n → N ≡ length (take n items)
+  count-full h = let k : length items ≤ n = omega arith in rw (take-all n items k) (sym full)
+
+  pub held-at : (i : ℕ) (d : A) → i < length (take n items) → getD items i d ≡ getD (take n items) i d
+  held-at i d h = let k : i < n = omega (arith, length-take n items) in sym (getD-take n items i d k)
+
+-- ---- a loop that fills an array of N from the front with `map f l`, over z
+module _ {A B : Type 0} (N : ℕ) (z : B) (f : A → B) (l : List A) (i : ℕ) where
+  pub fill-map : (v : B) (d : A) → i < length l → length l ≤ N → v ≡ f (getD l i d)
+      → set (take i (map f l) ++ replicate (N - i) z) i v ≡ take (i + 1) (map f l) ++ replicate (N - (i + 1)) z
+  fill-map v d h k e =
+      let a : N - i ≡ suc (N - (i + 1)) = omega arith in
+      let j : i ≤ length (map f l) = omega (arith, length-map l f) in
+      let g : i < length (map f l) = omega (arith, length-map l f) in
+      rw (a, set-at (take i (map f l)) z _ v i (length-take-le i (map f l) j), add-one, take-suc (map f l) i (f d) g, List·getD-map f l i d, e) (simp append-assoc)
+
+  pub fill-map-end : i ≡ length l → take i (map f l) ++ replicate (N - i) z ≡ map f l ++ replicate (N - length (map f l)) z
+  fill-map-end e =
+      let k : length (map f l) ≤ i = omega (arith, length-map l f) in
+      rw (take-all i (map f l) k, length-map l f, e)
+
+pub map-set : {A B : Type 0} (f : A → B) (l : List A) (i : ℕ) (v : A) → map f (set l i v) ≡ set (map f l) i (f v)
+map-set f [] i v = refl
+map-set f (a ∷ l) zero v = refl
+map-set f (a ∷ l) (suc i) v = ap (λ m. f a ∷ m) (map-set f l i v)

@@ -1,0 +1,4 @@
+pub mod Arrays
+pub mod Booleans
+pub mod Loops
+pub mod Select

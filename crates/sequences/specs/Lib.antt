@@ -1,0 +1,4 @@
+pub mod Choice
+pub mod Loops
+pub mod Members
+pub mod Select
