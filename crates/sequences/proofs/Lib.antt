@@ -1,4 +1,6 @@
 pub mod Arrays
 pub mod Booleans
 pub mod Loops
+pub mod Members
+pub mod Range
 pub mod Select

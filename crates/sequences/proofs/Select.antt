@@ -1,9 +1,10 @@
 -- What `filter`, `any` and `all` say of a list's members.
 use mathlib.Core.Path.{_≡_, refl, sym, ap, _∙_}
 use mathlib.Core.Bool.{Bool, true, false, not, _||_, _&&_}
-use mathlib.Core.List.{List, [], _∷_, _++_, List·Memᴰ·head, List·Memᴰ·tail, List·Memᴰ·cases-cons, List·Memᴰ·not-nil}
+use mathlib.Core.List.{List, [], _∷_, _++_, map, List·Memᴰ·head, List·Memᴰ·tail, List·Memᴰ·cases-cons, List·Memᴰ·not-nil}
 use mathlib.Core.Logic.{_⊎_, inl, inr, ⊎-elim}
 use Rattle.sequences.specs.Choice.{pick}
+use Rattle.sequences.specs.Loops.{fold}
 use Rattle.sequences.specs.Members.{_∈_}
 use Rattle.sequences.specs.Select.{filter, any, all}
 use Rattle.sequences.proofs.Booleans.{either-way, never-both, or-cases, or-left, or-right, and-left, and-right, and-both, false-of-not-true}
@@ -90,3 +91,71 @@ module _ {A : Type 0} (p : A → Bool) where
   unfolding all
   all-in [] h = refl
   all-in (b ∷ l) h = and-both (p b) (all p l) (h b (List·Memᴰ·head refl)) (all-in l (λ a m. h a (List·Memᴰ·tail m)))
+
+-- ---- through `map` and `filter`
+module _ {A B : Type 0} (p : B → Bool) (f : A → B) where
+  pub any-map : (l : List A) → any p (map f l) ≡ any (λ a. p (f a)) l
+  unfolding any
+  any-map [] = refl
+  any-map (a ∷ l) = rw (any-map l)
+
+  pub all-map : (l : List A) → all p (map f l) ≡ all (λ a. p (f a)) l
+  unfolding all
+  all-map [] = refl
+  all-map (a ∷ l) = rw (all-map l)
+
+module _ {A : Type 0} (p q : A → Bool) where
+  pub any-filter : (l : List A) → any p (filter q l) ≡ any (λ a. q a && p a) l
+  unfolding any
+  any-filter [] = rw (filter-nil q)
+  any-filter (a ∷ l) = ⊎-elim (λ y. rw (filter-yes q a l y, y, any-filter l)) (λ n. rw (filter-no q a l n, n, any-filter l)) (either-way (q a))
+
+  -- what is not among them need not pass
+  pub all-filter : (l : List A) → all p (filter q l) ≡ all (λ a. not (q a) || p a) l
+  unfolding all
+  all-filter [] = rw (filter-nil q)
+  all-filter (a ∷ l) = ⊎-elim (λ y. rw (filter-yes q a l y, y, all-filter l)) (λ n. rw (filter-no q a l n, n, all-filter l)) (either-way (q a))
+
+  pub all-and : (l : List A) → all (λ a. p a && q a) l ≡ (all p l && all q l)
+  unfolding all
+  all-and [] = refl
+  all-and (a ∷ l) = rw (all-and l) (four (p a) (q a) (all p l) (all q l))
+    where
+      four : (a b c d : Bool) → ((a && b) && (c && d)) ≡ ((a && c) && (b && d))
+      four true b true d = refl
+      four true true false d = refl
+      four true false false d = refl
+      four false b c d = refl
+
+pub all-not : {A : Type 0} (p : A → Bool) (l : List A) → all (λ a. not (p a)) l ≡ not (any p l)
+unfolding all any
+all-not p [] = refl
+all-not p (a ∷ l) = rw (all-not p l) (neither (p a) (any p l))
+  where
+    neither : (x y : Bool) → (not x && not y) ≡ not (x || y)
+    neither true y = refl
+    neither false y = refl
+
+module _ {A : Type 0} (p q : A → Bool) where
+  -- two tests that agree on the members
+  pub any-same : (l : List A) → ((a : A) → a ∈ l → p a ≡ q a) → any p l ≡ any q l
+  unfolding any
+  any-same [] h = refl
+  any-same (a ∷ l) h = rw (h a (List·Memᴰ·head refl), any-same l (λ b m. h b (List·Memᴰ·tail m)))
+
+  pub all-same : (l : List A) → ((a : A) → a ∈ l → p a ≡ q a) → all p l ≡ all q l
+  unfolding all
+  all-same [] h = refl
+  all-same (a ∷ l) h = rw (h a (List·Memᴰ·head refl), all-same l (λ b m. h b (List·Memᴰ·tail m)))
+
+  pub filter-same : (l : List A) → ((a : A) → a ∈ l → p a ≡ q a) → filter p l ≡ filter q l
+  unfolding filter
+  filter-same [] h = refl
+  filter-same (a ∷ l) h = rw (h a (List·Memᴰ·head refl), filter-same l (λ b m. h b (List·Memᴰ·tail m)))
+
+-- a loop over those that pass is a loop over all that leaves the state where one does not
+module _ {S A B : Type 0} (f : S → B → S) (g : A → B) (q : A → Bool) where
+  pub fold-select : (l : List A) (s : S) → fold f (map g (filter q l)) s ≡ fold (λ t a. pick (q a) (f t (g a)) t) l s
+  unfolding fold
+  fold-select [] s = rw (filter-nil q)
+  fold-select (a ∷ l) s = ⊎-elim (λ y. rw (filter-yes q a l y, y, fold-select l (f s (g a)))) (λ n. rw (filter-no q a l n, n, fold-select l s)) (either-way (q a))

@@ -1,0 +1,49 @@
+-- Laws on numbers in a row, the places that a counting loop goes through.
+use mathlib.Core.Path.{_≡_, refl, sym, ap, _∙_}
+use mathlib.Core.List.{List, [], _∷_, List·Memᴰ·head, List·Memᴰ·tail, List·Memᴰ·cases-cons, List·Memᴰ·not-nil}
+use mathlib.Core.Logic.{⊎-elim}
+use Prim.Native.Nat.{ℕ, zero, suc, _+_, _-_, _≤_, _<_}
+use native.Mathlib.Omega.{arith}
+use native.Mathlib.Decide.{ℕ-discrete}
+use lib.ListN.{length, getD}
+use Rattle.sequences.specs.Members.{_∈_}
+use Rattle.sequences.specs.Range.{range}
+
+-- ---- what is left of a counting loop to n
+pub range-turn : (n k : ℕ) → k < n → range k (n - k) ≡ k ∷ range (k + 1) (n - (k + 1))
+unfolding range
+range-turn n k h = let a : n - k ≡ suc (n - (k + 1)) = omega arith in rw a
+
+pub range-end : (n k : ℕ) → n ≤ k → range k (n - k) ≡ []
+unfolding range
+range-end n k h = let a : n - k ≡ 0 = omega arith in rw a
+
+pub length-range : (k n : ℕ) → length (range k n) ≡ n
+unfolding range
+length-range k zero = refl
+length-range k (suc n) = ap suc (length-range (k + 1) n)
+
+pub getD-range : (k n i d : ℕ) → i < n → getD (range k n) i d ≡ k + i
+unfolding range
+getD-range k zero i d h = absurd (omega arith)
+getD-range k (suc n) zero d h = omega arith
+getD-range k (suc n) (suc i) d h = getD-range (k + 1) n i d (omega arith) ∙ omega arith
+
+-- ---- its members
+pub range-of : (k n : ℕ) {j : ℕ} → j ∈ range k n → (k ≤ j) × (j < k + n)
+unfolding range
+range-of k zero m = absurd (List·Memᴰ·not-nil m)
+range-of k (suc n) {j} m =
+    ⊎-elim
+    (λ (e : j ≡ k). omega arith)
+    (λ r. let (a, b) = range-of (k + 1) n r in omega arith)
+    (List·Memᴰ·cases-cons m)
+
+pub range-in : (k n j : ℕ) → k ≤ j → j < k + n → j ∈ range k n
+unfolding range
+range-in k zero j a b = absurd (omega arith)
+range-in k (suc n) j a b =
+    elim (ℕ-discrete j k) [
+      | yes e ↦ List·Memᴰ·head e
+      | no e ↦ List·Memᴰ·tail (range-in (k + 1) n j (omega arith) (omega arith))
+    ]
