@@ -1,0 +1,107 @@
+// Timestamps of loggers with separate clocks: their order, composite timestamps, the join and the comparison.
+ghost use mathlib.Core.Path.{_≡_};
+ghost use mathlib.Core.Bool.{_||_, _&&_};
+ghost use mathlib.Core.List.{_++_, _∷_, []};
+ghost use lib.Dec.{ltb};
+ghost use Rattle.timestamps.specs.Order.{before, blank, clearlyEarlier, globalOf, valid, validRatio};
+
+// ---- timestamps
+
+// A tick of a logger's own clock (document 01: local tick).
+#[repr(C)]
+pub struct LocalTick(pub u64);
+
+// A tick of the clock that all loggers share (document 01: global tick).
+pub struct GlobalTick(pub u64);
+
+// Document 01's stamp: the place of a logger and its local tick.
+#[repr(C)]
+pub struct Timestamp {
+    pub logger: u8,
+    pub tick: LocalTick,
+}
+
+impl LocalTick {
+    // The global tick: the one place where a local tick becomes one. A ratio of 0 gives 0.
+    pub fn global(self, ratio: u64) -> GlobalTick
+        ensures { λ r. ⌜ r ≡ globalOf ratio self ⌝ }
+    {
+        if ratio == 0 {
+            GlobalTick(0)
+        } else {
+            GlobalTick(self.0 / ratio)
+        }
+    }
+
+    // Earlier on one and the same clock.
+    pub fn earlier(self, other: LocalTick) -> bool
+        ensures { λ r. ⌜ r ≡ ltb (self .0) (other .0) ⌝ }
+    {
+        self.0 < other.0
+    }
+}
+
+impl GlobalTick {
+    // Earlier by more than one global tick.
+    pub fn clearly_earlier(self, other: GlobalTick) -> bool
+        ensures { λ r. ⌜ r ≡ clearlyEarlier self other ⌝ }
+    {
+        if self.0 < other.0 {
+            1 < other.0 - self.0
+        } else {
+            false
+        }
+    }
+}
+
+impl Timestamp {
+    pub const MAX_TICK: u64 = 9223372036854775807;
+
+    pub const MAX_RATIO: u64 = 1000000;
+
+    // What stands where there is no timestamp.
+    pub fn blank() -> Timestamp
+        ensures { λ r. ⌜ r ≡ blank ⌝ }
+    {
+        let tick = LocalTick(0);
+        Timestamp {
+            logger: 255,
+            tick: tick,
+        }
+    }
+
+    // A logger place of 0 to 7, and a tick that is not too large.
+    pub fn valid(self) -> bool
+        ensures { λ r. ⌜ r ≡ valid self ⌝ }
+    {
+        if 7 < self.logger {
+            false
+        } else {
+            self.tick.0 <= Timestamp::MAX_TICK
+        }
+    }
+
+    pub fn before(self, other: Timestamp, ratio: u64) -> bool
+        ensures { λ r. ⌜ r ≡ before ratio self other ⌝ }
+    {
+        let s = self.tick;
+        let t = other.tick;
+        if self.logger == other.logger {
+            s.earlier(t)
+        } else {
+            let g = s.global(ratio);
+            let h = t.global(ratio);
+            g.clearly_earlier(h)
+        }
+    }
+}
+
+pub fn valid_ratio(ratio: u64) -> bool
+    ensures { λ r. ⌜ r ≡ validRatio ratio ⌝ }
+{
+    if ratio == 0 {
+        false
+    } else {
+        ratio <= Timestamp::MAX_RATIO
+    }
+}
