@@ -42,3 +42,9 @@ pub map-set : {A B : Type 0} (f : A → B) (l : List A) (i : ℕ) (v : A) → ma
 map-set f [] i v = refl
 map-set f (a ∷ l) zero v = refl
 map-set f (a ∷ l) (suc i) v = ap (λ m. f a ∷ m) (map-set f l i v)
+
+-- ---- elements
+pub getD-map-in : {A B : Type 0} (f : A → B) (l : List A) (i : ℕ) (d : A) (z : B) → i < length l → getD (map f l) i z ≡ f (getD l i d)
+getD-map-in f [] i d z h = absurd (omega arith)
+getD-map-in f (a ∷ l) zero d z h = refl
+getD-map-in f (a ∷ l) (suc i) d z h = getD-map-in f l i d z (omega arith)

@@ -1,2 +1,4 @@
+pub mod Composite
+pub mod Join
 pub mod Maxima
 pub mod Order

@@ -1,2 +1,5 @@
+pub mod Composite
+pub mod Join
 pub mod Maxima
 pub mod Order
+pub mod Steps

@@ -105,3 +105,11 @@ pub fn valid_ratio(ratio: u64) -> bool
         ratio <= Timestamp::MAX_RATIO
     }
 }
+
+// ---- composite timestamps
+
+// Document 01's composite stamp: at most one timestamp for each logger place. Where there is none the tick is 0.
+pub struct CompositeTimestamp {
+    pub present: [bool; 8],
+    pub ticks: [LocalTick; 8],
+}
