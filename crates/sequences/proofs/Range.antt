@@ -1,13 +1,17 @@
 -- Laws on numbers in a row, the places that a counting loop goes through.
 use mathlib.Core.Path.{_≡_, refl, sym, ap, _∙_}
 use mathlib.Core.List.{List, [], _∷_, List·Memᴰ·head, List·Memᴰ·tail, List·Memᴰ·cases-cons, List·Memᴰ·not-nil}
+use mathlib.Core.Bool.{Bool, true, false, _||_, _&&_, and-assoc, or-assoc, and-true, or-false}
 use mathlib.Core.Logic.{⊎-elim}
 use Prim.Native.Nat.{ℕ, zero, suc, _+_, _-_, _≤_, _<_}
 use native.Mathlib.Omega.{arith}
 use native.Mathlib.Decide.{ℕ-discrete}
 use lib.ListN.{length, getD}
 use Rattle.sequences.specs.Members.{_∈_}
+use Rattle.sequences.specs.Loops.{fold}
 use Rattle.sequences.specs.Range.{range}
+use Rattle.sequences.specs.Select.{any, all}
+use Rattle.sequences.proofs.Loops.{fold-none, fold-next}
 
 -- ---- what is left of a counting loop to n
 pub range-turn : (n k : ℕ) → k < n → range k (n - k) ≡ k ∷ range (k + 1) (n - (k + 1))
@@ -47,3 +51,28 @@ range-in k (suc n) j a b =
       | yes e ↦ List·Memᴰ·head e
       | no e ↦ List·Memᴰ·tail (range-in (k + 1) n j (omega arith) (omega arith))
     ]
+
+-- ---- a counting loop to n that gathers a test, or a state
+module _ (p : ℕ → Bool) (n k : ℕ) (b : Bool) where
+  pub any-turn : k < n → ((b || p k) || any p (range (k + 1) (n - (k + 1)))) ≡ (b || any p (range k (n - k)))
+  unfolding any
+  any-turn h = rw (range-turn n k h) (or-assoc b (p k) (any p (range (k + 1) (n - (k + 1)))))
+
+  pub any-done : n ≤ k → (b || any p (range k (n - k))) ≡ b
+  unfolding any
+  any-done h = rw (range-end n k h) (or-false b)
+
+  pub all-turn : k < n → ((b && p k) && all p (range (k + 1) (n - (k + 1)))) ≡ (b && all p (range k (n - k)))
+  unfolding all
+  all-turn h = rw (range-turn n k h) (and-assoc b (p k) (all p (range (k + 1) (n - (k + 1)))))
+
+  pub all-done : n ≤ k → (b && all p (range k (n - k))) ≡ b
+  unfolding all
+  all-done h = rw (range-end n k h) (and-true b)
+
+module _ {S : Type 0} (f : S → ℕ → S) (n k : ℕ) (s : S) where
+  pub each-turn : k < n → fold f (range (k + 1) (n - (k + 1))) (f s k) ≡ fold f (range k (n - k)) s
+  each-turn h = rw (range-turn n k h) (sym (fold-next f k (range (k + 1) (n - (k + 1))) s))
+
+  pub each-done : n ≤ k → fold f (range k (n - k)) s ≡ s
+  each-done h = rw (range-end n k h) (fold-none f s)

@@ -1,3 +1,4 @@
+pub mod Comparison
 pub mod Composite
 pub mod Join
 pub mod Maxima

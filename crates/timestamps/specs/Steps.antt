@@ -10,6 +10,8 @@ use Rattle.sequences.specs.Select.{any}
 use Rattle.timestamps.specs.declared.LocalTick.{LocalTick}
 use Rattle.timestamps.specs.declared.Timestamp.{Timestamp}
 use Rattle.timestamps.specs.declared.CompositeTimestamp.{CompositeTimestamp}
+use Rattle.timestamps.specs.declared.Met.{Met}
+use Rattle.timestamps.specs.declared.Relation.{Relation}
 use Rattle.timestamps.specs.Composite.{members, presentAt, stampAt, tickZero}
 use Rattle.timestamps.specs.Order.{before}
 
@@ -35,3 +37,30 @@ latestIn c l = fold addedTo l c
 -- the stamp at place k is there and before none of the composite's
 unfoldable pub maximalAt : ℕ → CompositeTimestamp → ℕ → Bool
 maximalAt ratio c k = presentAt c k && not (any (before ratio (stampAt c k)) (members c))
+
+-- whether a composite has a stamp before s, and one that s is before
+unfoldable pub metIn : ℕ → CompositeTimestamp → Timestamp → Met
+metIn ratio c s = record { earlier = any (λ m. before ratio m s) (members c); later = any (before ratio s) (members c) }
+
+-- the same with the stamp at place k
+unfoldable pub metAt : ℕ → CompositeTimestamp → Timestamp → Met → ℕ → Met
+metAt ratio c s m k =
+    pick (presentAt c k)
+    (record { earlier = m .earlier || before ratio (stampAt c k) s; later = m .later || before ratio s (stampAt c k) })
+    m
+
+-- a relation with one stamp more of the second composite, which the first has met
+abbrev pub relatedTo : Relation → Met → Relation
+relatedTo r m = record {
+  before = r .before && m .earlier;
+  concurrent = r .concurrent && (not (m .earlier) && not (m .later));
+  «weakly_before» = r .«weakly_before» && not (m .later);
+}
+
+-- a relation to the stamps before place k of b, taken to the next place
+unfoldable pub relatedAt : ℕ → CompositeTimestamp → CompositeTimestamp → Relation → ℕ → Relation
+relatedAt ratio a b r k = pick (presentAt b k) (relatedTo r (metIn ratio a (stampAt b k))) r
+
+-- the stamp at place k of b added, if there is one
+unfoldable pub addedAt : CompositeTimestamp → CompositeTimestamp → ℕ → CompositeTimestamp
+addedAt b c k = pick (presentAt b k) (addedTo c (stampAt b k)) c

@@ -3,6 +3,12 @@ ghost use mathlib.Core.Path.{_≡_};
 ghost use mathlib.Core.Bool.{_||_, _&&_};
 ghost use mathlib.Core.List.{_++_, _∷_, []};
 ghost use lib.Dec.{ltb};
+ghost use Prim.Native.Nat.{_<_};
+ghost use Rattle.sequences.specs.Choice.{pick};
+ghost use Rattle.timestamps.specs.Comparison.{relationOf};
+ghost use Rattle.timestamps.specs.Composite.{compositeOf, members, noTimestamps, stampAt, tickZero};
+ghost use Rattle.timestamps.specs.Join.{joinOf};
+ghost use Rattle.timestamps.specs.Steps.{addedAt, addedTo, latestIn, maximalAt, metAt, metIn, news, placed, relatedAt, relatedTo};
 ghost use Rattle.timestamps.specs.Order.{before, blank, clearlyEarlier, globalOf, valid, validRatio};
 
 // ---- timestamps
@@ -112,4 +118,244 @@ pub fn valid_ratio(ratio: u64) -> bool
 pub struct CompositeTimestamp {
     pub present: [bool; 8],
     pub ticks: [LocalTick; 8],
+}
+
+// Whether a composite has a timestamp before a given one, and one after it.
+pub struct Met {
+    pub earlier: bool,
+    pub later: bool,
+}
+
+// How one composite stands to another, by document 01's three words.
+pub struct Relation {
+    pub before: bool,
+    pub concurrent: bool,
+    pub weakly_before: bool,
+}
+
+fn either(a: bool, b: bool) -> bool
+    ensures { λ r. ⌜ r ≡ (a || b) ⌝ }
+{
+    if a { true } else { b }
+}
+
+fn both(a: bool, b: bool) -> bool
+    ensures { λ r. ⌜ r ≡ (a && b) ⌝ }
+{
+    if a { b } else { false }
+}
+
+fn stamp_at(c: CompositeTimestamp, k: usize) -> Timestamp
+    requires { ⌜ k < 8 ⌝ }
+    ensures { λ r. ⌜ r ≡ stampAt c k ⌝ }
+{
+    let t = c.ticks[k];
+    Timestamp {
+        logger: k as u8,
+        tick: t,
+    }
+}
+
+fn is_news(held: bool, old: LocalTick, new: LocalTick) -> bool
+    ensures { λ r. ⌜ r ≡ news held old new ⌝ }
+{
+    if held { old.earlier(new) } else { true }
+}
+
+fn place(c: CompositeTimestamp, s: Timestamp) -> CompositeTimestamp
+    requires { ⌜ s .logger < 8 ⌝ }
+    ensures { λ r. ⌜ r ≡ placed c s ⌝ }
+{
+    let k = s.logger as usize;
+    let t = s.tick;
+    let mut next = c;
+    next.present[k] = true;
+    next.ticks[k] = t;
+    next
+}
+
+// The composite and the timestamp at place k of b, if there is one.
+fn add_at(c: CompositeTimestamp, b: CompositeTimestamp, k: usize) -> CompositeTimestamp
+    requires { ⌜ k < 8 ⌝ }
+    ensures { λ r. ⌜ r ≡ addedAt b c k ⌝ }
+{
+    if b.present[k] {
+        let s = stamp_at(b, k);
+        c.added(s)
+    } else {
+        c
+    }
+}
+
+fn meet_at(m: Met, c: CompositeTimestamp, s: Timestamp, k: usize, ratio: u64) -> Met
+    requires { ⌜ k < 8 ⌝ }
+    ensures { λ r. ⌜ r ≡ metAt ratio c s m k ⌝ }
+{
+    if c.present[k] {
+        let t = stamp_at(c, k);
+        let e = t.before(s, ratio);
+        let l = s.before(t, ratio);
+        let earlier = either(m.earlier, e);
+        let later = either(m.later, l);
+        Met {
+            earlier: earlier,
+            later: later,
+        }
+    } else {
+        m
+    }
+}
+
+fn is_maximal(c: CompositeTimestamp, k: usize, ratio: u64) -> bool
+    requires { ⌜ k < 8 ⌝ }
+    ensures { λ r. ⌜ r ≡ maximalAt ratio c k ⌝ }
+{
+    if c.present[k] {
+        let s = stamp_at(c, k);
+        let m = c.meet(s, ratio);
+        !m.later
+    } else {
+        false
+    }
+}
+
+fn tick_if(keep: bool, t: LocalTick) -> LocalTick
+    ensures { λ r. ⌜ r ≡ pick keep t tickZero ⌝ }
+{
+    if keep { t } else { LocalTick(0) }
+}
+
+fn relate(r: Relation, m: Met) -> Relation
+    ensures { λ q. ⌜ q ≡ relatedTo r m ⌝ }
+{
+    let neither = both(!m.earlier, !m.later);
+    let before = both(r.before, m.earlier);
+    let concurrent = both(r.concurrent, neither);
+    let weakly = both(r.weakly_before, !m.later);
+    Relation {
+        before: before,
+        concurrent: concurrent,
+        weakly_before: weakly,
+    }
+}
+
+fn relate_at(
+    r: Relation,
+    a: CompositeTimestamp,
+    b: CompositeTimestamp,
+    k: usize,
+    ratio: u64,
+) -> Relation
+    requires { ⌜ k < 8 ⌝ }
+    ensures { λ q. ⌜ q ≡ relatedAt ratio a b r k ⌝ }
+{
+    if b.present[k] {
+        let s = stamp_at(b, k);
+        let m = a.meet(s, ratio);
+        relate(r, m)
+    } else {
+        r
+    }
+}
+
+impl CompositeTimestamp {
+    pub fn none() -> CompositeTimestamp
+        ensures { λ r. ⌜ r ≡ noTimestamps ⌝ }
+    {
+        let t = LocalTick(0);
+        CompositeTimestamp {
+            present: [false; 8],
+            ticks: [t; 8],
+        }
+    }
+
+    // One timestamp more of those that a join is made of: of each logger the latest is kept.
+    pub fn added(self, s: Timestamp) -> CompositeTimestamp
+        ensures { λ r. ⌜ r ≡ addedTo self s ⌝ }
+    {
+        if s.logger < 8 {
+            let k = s.logger as usize;
+            let held = self.present[k];
+            let old = self.ticks[k];
+            let new = s.tick;
+            if is_news(held, old, new) {
+                return place(self, s);
+            }
+        }
+        self
+    }
+
+    // The latest of each logger in both.
+    pub fn latest(self, b: CompositeTimestamp) -> CompositeTimestamp
+        ensures { λ r. ⌜ r ≡ latestIn self (members b) ⌝ }
+    {
+        let mut c = self;
+        let mut k: usize = 0;
+        while k < 8 {
+            c = add_at(c, b, k);
+            k = k + 1;
+        }
+        c
+    }
+
+    // Whether some timestamp here is before s, and whether s is before some.
+    pub fn meet(self, s: Timestamp, ratio: u64) -> Met
+        ensures { λ r. ⌜ r ≡ metIn ratio self s ⌝ }
+    {
+        let mut m = Met {
+            earlier: false,
+            later: false,
+        };
+        let mut k: usize = 0;
+        while k < 8 {
+            m = meet_at(m, self, s, k, ratio);
+            k = k + 1;
+        }
+        m
+    }
+
+    // The join of these timestamps: those that are before no other.
+    pub fn settled(self, ratio: u64) -> CompositeTimestamp
+        ensures { λ r. ⌜ r ≡ joinOf ratio (members self) ⌝ }
+    {
+        let mut present = [false; 8];
+        let mut ticks = [LocalTick(0); 8];
+        let mut k: usize = 0;
+        while k < 8 {
+            let t = self.ticks[k];
+            let keep = is_maximal(self, k, ratio);
+            present[k] = keep;
+            ticks[k] = tick_if(keep, t);
+            k = k + 1;
+        }
+        CompositeTimestamp {
+            present: present,
+            ticks: ticks,
+        }
+    }
+
+    // The join of two composites.
+    pub fn joined(self, b: CompositeTimestamp, ratio: u64) -> CompositeTimestamp
+        ensures { λ r. ⌜ r ≡ joinOf ratio (members self ++ members b) ⌝ }
+    {
+        let c = self.latest(b);
+        c.settled(ratio)
+    }
+
+    // How this composite stands to b.
+    pub fn compared(self, b: CompositeTimestamp, ratio: u64) -> Relation
+        ensures { λ r. ⌜ r ≡ relationOf ratio (members self) (members b) ⌝ }
+    {
+        let mut r = Relation {
+            before: true,
+            concurrent: true,
+            weakly_before: true,
+        };
+        let mut k: usize = 0;
+        while k < 8 {
+            r = relate_at(r, self, b, k, ratio);
+            k = k + 1;
+        }
+        r
+    }
 }
