@@ -1,4 +1,6 @@
 pub mod Composite
+pub mod Examples
+pub mod Groupings
 pub mod Join
 pub mod Maxima
 pub mod Order
