@@ -3,11 +3,11 @@ use mathlib.Core.Path.{_≡_, refl, sym, ap, ap₂, _∙_}
 use mathlib.Core.Bool.{Bool, true, false, _||_}
 use mathlib.Core.List.{[], _∷_, List·Memᴰ·not-nil}
 use mathlib.Core.Logic.{_⊎_, inl, inr, _↔_, ⊎-elim}
-use Prim.Native.Nat.{ℕ, _+_, _-_, _^_, _≤_, _<_}
+use Prim.Native.Nat.{ℕ, _+_, _-_, _*_, _%_, _^_, _≤_, _<_}
 use native.Mathlib.Decide.{decLt, ℕ-discrete}
 use native.Mathlib.Omega.{arith}
 use borrow.Author.Tests.{lt-ltb, le-ltb, eq-eqb, ne-eqb, eqb-true}
-use lib.Bits.{or-comm, or-lt, or-self, or-zero-r}
+use lib.Bits.{bitOr, or-comm, or-lt, or-self, or-zero-r}
 use lib.Dec.{eqb, lit<}
 use lib.Pow.{pow-lt, pow-pos}
 use Rattle.sequences.specs.Members.{_∈_, SameMembers}
@@ -16,7 +16,7 @@ use Rattle.sequences.proofs.Select.{filter-in, filter-of}
 use Rattle.event_sets.specs.declared.EventSet.{EventSet}
 use Rattle.event_sets.specs.Sets.{WordsFit, isSet, has, countUp, elements, Rising, sizeOf, noEvents, markedWith, unionOf}
 use Rattle.event_sets.proofs.Lists.{count-in, count-rising, count-length, filter-none, filter-same, filter-one, filter-rising, filter-length, length-pos}
-use Rattle.event_sets.proofs.Words.{set-beyond, set-or, set-mark, or-assoc, same-bits}
+use Rattle.event_sets.proofs.Words.{one-shl, set-beyond, set-or, set-mark, or-assoc, same-bits}
 
 -- ---- membership, by the words
 
@@ -50,7 +50,25 @@ has-none j =
       ]
     ]
 
+abbrev words : ℕ → ℕ → EventSet
+words l h = record { low = l; high = h }
+
 -- ---- a mark
+
+-- by the words, as the code's `1 << i` gives it
+module _ (s : EventSet) (i : ℕ) where
+  pub marked-low : i < 64 → markedWith s i ≡ words (bitOr (s .low) (1 * 2 ^ i % 2 ^ 64)) (s .high)
+  unfolding markedWith
+  marked-low h = rw (lt-ltb i 64 h, one-shl i h)
+
+  pub marked-high : 64 ≤ i → i < 128 → markedWith s i ≡ words (s .low) (bitOr (s .high) (1 * 2 ^ (i - 64) % 2 ^ 64))
+  unfolding markedWith
+  marked-high h k = rw (le-ltb i 64 h, lt-ltb i 128 k, one-shl (i - 64) (omega arith))
+
+  -- from 128 on nothing changes
+  pub marked-beyond : 128 ≤ i → markedWith s i ≡ s
+  unfolding markedWith
+  marked-beyond h = rw (le-ltb i 64 (omega arith), le-ltb i 128 h)
 
 eqb-sub : (i j : ℕ) → 64 ≤ i → 64 ≤ j → eqb (j - 64) (i - 64) ≡ eqb j i
 eqb-sub i j a b =
@@ -77,10 +95,6 @@ has-marked s i j hi =
       ]
     ]
 
-pub marked-beyond : (s : EventSet) (i : ℕ) → 128 ≤ i → markedWith s i ≡ s
-unfolding markedWith
-marked-beyond s i h = rw (le-ltb i 64 (omega arith), le-ltb i 128 h)
-
 -- ---- the union
 
 -- the union has what either set has
@@ -94,9 +108,6 @@ has-union a b j =
         | no k ↦ simp (le-ltb j 64 (omega arith), le-ltb j 128 (omega arith))
       ]
     ]
-
-abbrev words : ℕ → ℕ → EventSet
-words l h = record { low = l; high = h }
 
 pub union-comm : (a b : EventSet) → unionOf a b ≡ unionOf b a
 unfolding unionOf
@@ -185,6 +196,9 @@ size-pos s j e = length-pos (elements-has s j .1 e)
 
 pub elements-some : (s : EventSet) (j : ℕ) → has s j ≡ true → elements s ≡ [] → ⊥
 elements-some s j e n = List·Memᴰ·not-nil (rw n at (elements-has s j .1 e))
+
+pub not-none : (s : EventSet) (j : ℕ) → has s j ≡ true → s ≡ noEvents → ⊥
+not-none s j e n = never-both e (ap (λ t. has t j) n ∙ has-none j)
 
 -- ---- the words fit, and then a set is what it has
 

@@ -218,7 +218,7 @@ next-high s n h =
           ))
     ]
 
-pub next-low : (s : EventSet) (n : ℕ) → n < 64 → nextFrom s n ≡ pick (ltb (nextBit (s .low) n) 64) (nextBit (s .low) n) (64 + nextBit (s .high) 0)
+next-low : (s : EventSet) (n : ℕ) → n < 64 → nextFrom s n ≡ pick (ltb (nextBit (s .low) n) 64) (nextBit (s .low) n) (64 + nextBit (s .high) 0)
 unfolding nextFrom nextBit
 next-low s n h =
     let a : 128 - n ≡ 64 - n + 64 = omega arith in
@@ -238,3 +238,10 @@ next-low s n h =
           (λ j m. omega (arith, count-of (64 - n) n (filter-of (isSet (s .low)) (countUp (64 - n) n) m .0))),
       rest,
     )
+
+-- what the code returns: a next bit of the low word, else the next bit of the high word
+pub next-found : (s : EventSet) (n r : ℕ) → n < 64 → r ≡ nextBit (s .low) n → r < 64 → r ≡ nextFrom s n
+next-found s n r h e l = rw (next-low s n h, ← e, lt-ltb r 64 l)
+
+pub next-after : (s : EventSet) (n r q : ℕ) → n < 64 → r ≡ nextBit (s .low) n → 64 ≤ r → q ≡ nextBit (s .high) 0 → 64 + q ≡ nextFrom s n
+next-after s n r q h e l f = rw (next-low s n h, ← e, le-ltb r 64 l, f)

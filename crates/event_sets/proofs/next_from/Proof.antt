@@ -2,8 +2,7 @@
 use mathlib.Core.Path.{sym, ap, _∙_}
 use Prim.Native.Nat.{_+_, _-_}
 use native.Mathlib.Omega.{arith}
-use borrow.Author.Tests.{lt-ltb, le-ltb}
-use Rattle.event_sets.proofs.Walks.{bit-most, next-high, next-low}
+use Rattle.event_sets.proofs.Walks.{bit-most, next-high, next-found, next-after}
 use borrow.Author.Needs.{needs}
 use Rattle.event_sets.proofs.next_from.Statement.{statement}
 use Rattle.event_sets.proofs.next_from.Tie as tie
@@ -27,14 +26,12 @@ add-result-2 : tie.Need-add-result-2
 add-result-2 c = let a = c .before .before .before .before .args in omega (arith, c .next-bit3 .ensures, bit-most (a .set .high) 0)
 
 returns-2 : tie.Need-returns-2
-returns-2 c =
-    let low = c .before in
-    rw (next-low _ _ (low .before .if1 .left), ← (low .next-bit2 .ensures), lt-ltb (low .next-bit2 .result) 64 (c .if2 .taken))
+returns-2 c = let low = c .before in next-found _ _ _ (low .before .if1 .left) (low .next-bit2 .ensures) (c .if2 .taken)
 
 returns-3 : tie.Need-returns-3
 returns-3 c =
     let low = c .before .before in
-    rw (next-low _ _ (low .before .if1 .left), ← (low .next-bit2 .ensures), le-ltb (low .next-bit2 .result) 64 (c .before .if2 .left), c .next-bit3 .ensures)
+    next-after _ _ _ _ (low .before .if1 .left) (low .next-bit2 .ensures) (c .before .if2 .left) (c .next-bit3 .ensures)
 
 pub next-from-spec : {M : Type 1} → statement M
 next-from-spec =
