@@ -131,8 +131,8 @@ union-none a = ap₂ words (or-zero-r (a .low)) (or-zero-r (a .high))
 pub elements-has : (s : EventSet) (j : ℕ) → (j ∈ elements s) ↔ (has s j ≡ true)
 unfolding elements
 elements-has s j = (
-  (λ m. filter-of (has s) (countUp 128 0) m .1),
-  (λ e. filter-in (has s) (countUp 128 0) (count-in 128 0 j (omega arith) (has-below s j e)) e),
+  (λ m. filter-of (has s) _ m .1),
+  (λ e. filter-in (has s) _ (count-in _ 0 j (omega arith) (has-below s j e)) e),
 )
 
 pub elements-below : (s : EventSet) (j : ℕ) → j ∈ elements s → j < 128
@@ -140,18 +140,18 @@ elements-below s j m = has-below s j (elements-has s j .0 m)
 
 pub elements-rising : (s : EventSet) → Rising (elements s)
 unfolding elements
-elements-rising s = filter-rising (has s) (countUp 128 0) (count-rising 128 0)
+elements-rising s = filter-rising (has s) _ (count-rising _ 0)
 
 pub elements-none : elements noEvents ≡ []
 unfolding elements
-elements-none = filter-none (has noEvents) (countUp 128 0) (λ j m. has-none j)
+elements-none = filter-none (has noEvents) _ (λ j m. has-none j)
 
 pub elements-one : (i : ℕ) → i < 128 → elements (markedWith noEvents i) ≡ i ∷ []
 unfolding elements
 elements-one i h =
-    filter-same (has (markedWith noEvents i)) (λ j. eqb j i) (countUp 128 0)
+    filter-same (has (markedWith noEvents i)) (λ j. eqb j i) _
     (λ j m. has-marked noEvents i j h ∙ ap (λ b. eqb j i || b) (has-none j) ∙ or-false (eqb j i))
-    ∙ filter-one i 128 0 (omega arith) h
+    ∙ filter-one i _ 0 (omega arith) h
   where
     or-false : (b : Bool) → (b || false) ≡ b
     or-false true = refl

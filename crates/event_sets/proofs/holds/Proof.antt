@@ -14,14 +14,14 @@ shr-result-2 c = search needs
 
 returns : tie.Need-returns
 unfolding isSet
-returns c = sym (has-low _ _ (c .before .if1 .taken))
+returns c = let a = c .before .before .args in sym (has-low (a .set) (a .number) (c .before .if1 .taken))
 
 returns-2 : tie.Need-returns-2
 unfolding isSet
-returns-2 c = sym (has-high _ _ (c .before .before .if1 .left) (c .before .if2 .taken))
+returns-2 c = let a = c .before .before .before .args in sym (has-high (a .set) (a .number) (c .before .before .if1 .left) (c .before .if2 .taken))
 
 returns-3 : tie.Need-returns-3
-returns-3 c = sym (has-beyond _ _ (c .if2 .left))
+returns-3 c = let a = c .before .before .args in sym (has-beyond (a .set) (a .number) (c .if2 .left))
 
 pub holds-spec : {M : Type 1} → statement M
 holds-spec = tie.close (tie.spec shr-result shr-result-2 returns returns-2 returns-3)
