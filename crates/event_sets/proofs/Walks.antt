@@ -151,6 +151,19 @@ pub next-again : (s : EventSet) (n : ℕ) → nextFrom s (nextFrom s n) ≡ next
 unfolding nextFrom
 next-again s n = ap (firstOr 128) (walk-skip s n)
 
+-- a loop over the elements, at the place `at`: where it starts, and each turn
+pub walk-start : (s : EventSet) (at : ℕ) → at ≡ nextFrom s 0 → (nextFrom s at ≡ at) × (elementsFrom s at ≡ elements s)
+walk-start s at e = rw e (next-again s 0, walk-skip s 0 ∙ from-start s)
+
+pub walk-turn : (s : EventSet) (at at′ : ℕ) → nextFrom s at ≡ at → at < 128 → at′ ≡ nextFrom s (at + 1)
+    → (nextFrom s at′ ≡ at′) × (elementsFrom s at ≡ at ∷ elementsFrom s at′) × (at < at′) × (at′ ≤ 128)
+walk-turn s at at′ e h f = (
+  rw f (next-again s (at + 1)),
+  rw (f, walk-skip s (at + 1)) (rw e at (walk-next s at (omega arith))),
+  omega (arith, f, next-later s (at + 1) (omega arith)),
+  omega (arith, f, next-most s (at + 1)),
+)
+
 -- ---- the next bit of a word, by its trailing zeros
 
 under-min : (b t u d : ℕ) → t ≡ min d u → under b t ≡ min (suc d) (under b u)
