@@ -1,0 +1,5 @@
+pub mod Counts
+pub mod Lists
+pub mod Members
+pub mod Walks
+pub mod Words
