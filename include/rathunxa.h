@@ -31,8 +31,9 @@
  *
  *  - A pointer must lead to as many entries as the count says. The library
  *    cannot check that. With count 0 the pointer may be NULL.
- *  - Look at the number first. With a number other than 0 the other fields
- *    hold no result: the timestamps are all blank, the replies all false.
+ *  - Look at the number first. With a number other than 0 there is no result:
+ *    the timestamps are all blank, the replies all false. The place says where
+ *    the fault is.
  *  - Concurrent does not carry over: with ratio 10, 1:80 (logger 1, tick 80)
  *    is concurrent with 2:90 and that with 3:100, but 1:80 is before 3:100.
  *  - "Not before" does not mean "after": two composite timestamps may be

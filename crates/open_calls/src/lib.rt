@@ -1,6 +1,7 @@
 // The two calls that stand open to any caller, over lent lists of timestamps: the join of a list, and the comparison of two.
 ghost use mathlib.Core.Path.{_≡_};
 ghost use mathlib.Core.Bool.{_||_};
+ghost use mathlib.Core.List.{[]};
 ghost use Prim.Native.Nat.{_<_};
 ghost use Rattle.open_calls.specs.Answers.{compareAnswer, joinAnswer, numberOf, refusal, refusedComparison, refusedJoin, shown, shownAt, validLength};
 ghost use Rattle.open_calls.specs.Steps.{afterFirst, compareDone, compareStart, foldGather, foldJoin, gatherStep, gathered, joinDone, joinStart, joinStep, joinVerdict, placeAfter};
