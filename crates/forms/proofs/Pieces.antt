@@ -47,14 +47,14 @@ module _ (low high v : ℕ) where
 
 -- ---- an answer of a fault, a value and a place
 module _ {A : Type 0} (k : ℕ) (a : A) (at : ℕ) (r : Read A) (e : seen k a at ≡ r) where
-  pub seen-got : k ≡ 0 → r ≡ got a at
+  pub seen-got : eqb k 0 ≡ true → r ≡ got a at
   seen-got z = sym e ∙ rw z
 
-  pub seen-bad : (k ≡ 0 → ⊥) → r ≡ bad k at
-  seen-bad z = sym e ∙ rw (ne-eqb k 0 z)
+  pub seen-bad : eqb k 0 ≡ false → r ≡ bad k at
+  seen-bad z = sym e ∙ rw z
 
-pub bad-seen : {A : Type 0} (k : ℕ) (a : A) (at : ℕ) → (k ≡ 0 → ⊥) → seen k a at ≡ bad k at
-bad-seen k a at z = rw (ne-eqb k 0 z)
+pub bad-seen : {A : Type 0} (k : ℕ) (a : A) (at : ℕ) → eqb k 0 ≡ false → seen k a at ≡ bad k at
+bad-seen k a at z = rw z
 
 -- ---- pieces
 -- what is known of one that was got

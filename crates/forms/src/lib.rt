@@ -3,6 +3,7 @@ ghost use mathlib.Core.Path.{_≡_};
 ghost use Prim.Native.Nat.{_+_, _-_, _≤_};
 ghost use lib.ListN.{length};
 ghost use Rattle.forms.specs.Bytes.{valueAt};
+ghost use Rattle.forms.specs.Sections.{within};
 ghost use Rattle.forms.specs.Views.{numberRead};
 
 // What reading a number finds.
@@ -37,6 +38,12 @@ pub fn number_at(bytes: &[u8], at: usize, width: usize) -> u64
     v
 }
 
+pub fn is_within(v: u64, low: u64, high: u64) -> bool
+    ensures { λ r. ⌜ r ≡ within low high v ⌝ }
+{
+    if v < low { false } else { v <= high }
+}
+
 // The number that `width` bytes make at a place, if they are there and it is from low to high.
 pub fn read_number(bytes: &[u8], at: usize, width: usize, low: u64, high: u64) -> NumberRead
     requires { ⌜ (1 ≤ width) × (width ≤ 8) ⌝ }
@@ -46,11 +53,9 @@ pub fn read_number(bytes: &[u8], at: usize, width: usize, low: u64, high: u64) -
         return NumberRead::CutShort;
     }
     let v = number_at(bytes, at, width);
-    if v < low {
-        return NumberRead::Outside;
+    if is_within(v, low, high) {
+        NumberRead::Value(v)
+    } else {
+        NumberRead::Outside
     }
-    if high < v {
-        return NumberRead::Outside;
-    }
-    NumberRead::Value(v)
 }
