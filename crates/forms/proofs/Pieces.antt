@@ -10,7 +10,7 @@ use borrow.Author.Tests.{leb-true, le-leb, lt-leb, eqb-true, ne-eqb}
 use Rattle.sequences.specs.Choice.{pick}
 use Rattle.forms.specs.Bytes.{valueAt}
 use Rattle.forms.specs.Forms.{Form, number}
-use Rattle.forms.specs.Sections.{unless, within, outside, Read, got, bad, judged, piece}
+use Rattle.forms.specs.Sections.{unless, within, outside, Read, got, bad, then, judged, piece}
 use Rattle.forms.specs.Views.{numberRead, readOf, seen}
 use Rattle.forms.specs.declared.NumberRead.{NumberRead}
 use Rattle.forms.specs.declared.NumberRead.the-variants.{CutShort, Outside, Value}
@@ -48,13 +48,28 @@ module _ (low high v : ℕ) where
 -- ---- an answer of a fault, a value and a place
 module _ {A : Type 0} (k : ℕ) (a : A) (at : ℕ) (r : Read A) (e : seen k a at ≡ r) where
   pub seen-got : eqb k 0 ≡ true → r ≡ got a at
+  unfolding seen
   seen-got z = sym e ∙ rw z
 
   pub seen-bad : eqb k 0 ≡ false → r ≡ bad k at
+  unfolding seen
   seen-bad z = sym e ∙ rw z
 
 pub bad-seen : {A : Type 0} (k : ℕ) (a : A) (at : ℕ) → eqb k 0 ≡ false → seen k a at ≡ bad k at
+unfolding seen
 bad-seen k a at z = rw z
+
+pub got-seen : {A : Type 0} (a : A) (at : ℕ) → seen 0 a at ≡ got a at
+unfolding seen
+got-seen a at = refl
+
+pub seen-then : {A B : Type 0} (h : A → B) (k : ℕ) (a : A) (at : ℕ) → seen k (h a) at ≡ then (seen k a at) (λ x next. got (h x) next)
+unfolding seen
+seen-then h k a at = go (eqb k 0)
+  where
+    go : (t : Bool) → pick t (got (h a) at) (bad k at) ≡ then (pick t (got a at) (bad k at)) (λ x next. got (h x) next)
+    go true = refl
+    go false = refl
 
 -- ---- pieces
 -- what is known of one that was got
@@ -90,10 +105,14 @@ module _ {A : Type 0} (f : Form A) (cut : ℕ) (fault : A → ℕ) (b : List ℕ
   pub piece-is : (a : A) → at + f .width ≤ length b → f .value b at ≡ a → fault a ≡ 0 → piece f cut fault b at ≡ got a (at + f .width)
   piece-is a h e k = piece-judged h ∙ rw (e, k)
 
-  pub piece-wrong : (k : ℕ) → at + f .width ≤ length b → fault (f .value b at) ≡ k → 0 < k → piece f cut fault b at ≡ bad k at
-  piece-wrong k h e p =
-      let z : eqb k 0 ≡ false = ne-eqb k 0 (omega arith) in
-      rw (piece-judged h, e, z)
+  -- as a reader gives them
+  pub seen-right : (a : A) → at + f .width ≤ length b → a ≡ f .value b at → eqb (fault a) 0 ≡ true → seen 0 a (at + f .width) ≡ piece f cut fault b at
+  unfolding seen
+  seen-right a h e k = sym (piece-is a h (sym e) (eqb-true (fault a) 0 k))
+
+  pub seen-wrong : (a : A) → at + f .width ≤ length b → a ≡ f .value b at → eqb (fault a) 0 ≡ false → (x : A) → seen (fault a) x at ≡ piece f cut fault b at
+  unfolding seen
+  seen-wrong a h e k x = rw (piece-judged h, ← e, k)
 
 -- pieces whose faults agree where there is room
 pub piece-same : {A : Type 0} (f : Form A) (cut : ℕ) (g h : A → ℕ) (b : List ℕ) (at : ℕ) → (at + f .width ≤ length b → g (f .value b at) ≡ h (f .value b at))

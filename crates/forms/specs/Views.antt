@@ -21,5 +21,5 @@ readOf cut wrong w at Outside = bad wrong at
 readOf cut wrong w at (Value v) = got v (at + w)
 
 -- as the readers give it: a fault, a value, and the place after it or of the fault
-abbrev pub seen : {A : Type 0} → ℕ → A → ℕ → Read A
+unfoldable pub seen : {A : Type 0} → ℕ → A → ℕ → Read A
 seen fault a at = judged fault a at at
