@@ -1,4 +1,5 @@
 pub mod Arrays
 pub mod Booleans
 pub mod Loops
+pub mod Parts
 pub mod Select
