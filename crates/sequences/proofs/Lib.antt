@@ -2,5 +2,6 @@ pub mod Arrays
 pub mod Booleans
 pub mod Loops
 pub mod Members
+pub mod Parts
 pub mod Range
 pub mod Select

@@ -1,0 +1,25 @@
+-- Parts of a list, and the elements of a mapped one.
+use mathlib.Core.Path.{_≡_, refl, sym, ap, _∙_}
+use mathlib.Core.List.{List, [], _∷_, map}
+use mathlib.Core.Logic.{⊎-elim}
+use Prim.Native.Nat.{ℕ, zero, suc, _≤_, _<_, min}
+use native.Mathlib.Nat.{not-suc-le-zero, le-of-suc-le-suc}
+use native.Mathlib.Omega.{arith}
+use lib.ListN.{length, getD, take}
+use lib.Seq.{take-all}
+use lib.Dec.{leb}
+use borrow.Author.Tests.{leb-true, leb-false}
+use Rattle.sequences.proofs.Booleans.{either-way}
+
+-- within the list the two defaults do not matter
+pub getD-map : {A B : Type 0} (f : A → B) (l : List A) (i : ℕ) (d : A) (z : B) → i < length l → getD (map f l) i z ≡ f (getD l i d)
+getD-map f [] i d z h = absurd (not-suc-le-zero h)
+getD-map f (a ∷ l) zero d z h = refl
+getD-map f (a ∷ l) (suc i) d z h = getD-map f l i d z (le-of-suc-le-suc h)
+
+-- in a list of m, the first n are the first k, where k is n but at most m
+pub take-min : {A : Type 0} (n m k : ℕ) (l : List A) → length l ≡ m → k ≡ min n m → take k l ≡ take n l
+take-min n m k l e q =
+    ⊎-elim (λ h. let j = leb-true n m h in let r : k ≡ n = omega arith in rw r)
+    (λ h. let j = leb-false n m h in take-all k l (omega arith) ∙ sym (take-all n l (omega arith)))
+    (either-way (leb n m))
