@@ -1,6 +1,6 @@
 -- What sets have: after a mark, in a union, and as a list of elements.
 use mathlib.Core.Path.{_≡_, refl, sym, ap, ap₂, _∙_}
-use mathlib.Core.Bool.{Bool, true, false, _||_}
+use mathlib.Core.Bool.{Bool, true, false, _||_, or-false}
 use mathlib.Core.List.{[], _∷_, List·Memᴰ·not-nil}
 use mathlib.Core.Logic.{_⊎_, inl, inr, _↔_, ⊎-elim}
 use Prim.Native.Nat.{ℕ, _+_, _-_, _*_, _%_, _^_, _≤_, _<_}
@@ -11,11 +11,13 @@ use lib.Bits.{bitOr, or-comm, or-lt, or-self, or-zero-r}
 use lib.Dec.{eqb, lit<}
 use lib.Pow.{pow-lt, pow-pos}
 use Rattle.sequences.specs.Members.{_∈_, SameMembers}
+use Rattle.sequences.specs.Range.{range, Rising}
 use Rattle.sequences.proofs.Booleans.{never-both, or-cases, or-left, or-right, same-test}
-use Rattle.sequences.proofs.Select.{filter-in, filter-of}
+use Rattle.sequences.proofs.Members.{length-pos}
+use Rattle.sequences.proofs.Range.{range-in, range-rising, length-range, filter-one}
+use Rattle.sequences.proofs.Select.{filter-in, filter-of, filter-none, filter-same, filter-length, filter-rising}
 use Rattle.event_sets.specs.declared.EventSet.{EventSet}
-use Rattle.event_sets.specs.Sets.{WordsFit, isSet, has, countUp, elements, Rising, sizeOf, noEvents, markedWith, unionOf}
-use Rattle.event_sets.proofs.Lists.{count-in, count-rising, count-length, filter-none, filter-same, filter-one, filter-rising, filter-length, length-pos}
+use Rattle.event_sets.specs.Sets.{WordsFit, isSet, has, elements, sizeOf, noEvents, markedWith, unionOf}
 use Rattle.event_sets.proofs.Words.{one-shl, set-beyond, set-or, set-mark, or-assoc, same-bits}
 
 -- ---- membership, by the words
@@ -132,7 +134,7 @@ pub elements-has : (s : EventSet) (j : ℕ) → (j ∈ elements s) ↔ (has s j 
 unfolding elements
 elements-has s j = (
   (λ m. filter-of (has s) _ m .1),
-  (λ e. filter-in (has s) _ (count-in _ 0 j (omega arith) (has-below s j e)) e),
+  (λ e. filter-in (has s) _ (range-in 0 _ j (omega arith) (has-below s j e)) e),
 )
 
 pub elements-below : (s : EventSet) (j : ℕ) → j ∈ elements s → j < 128
@@ -140,7 +142,7 @@ elements-below s j m = has-below s j (elements-has s j .0 m)
 
 pub elements-rising : (s : EventSet) → Rising (elements s)
 unfolding elements
-elements-rising s = filter-rising (has s) _ (count-rising _ 0)
+elements-rising s = filter-rising (has s) _ (range-rising 0 _)
 
 pub elements-none : elements noEvents ≡ []
 unfolding elements
@@ -152,10 +154,6 @@ elements-one i h =
     filter-same (has (markedWith noEvents i)) (λ j. eqb j i) _
     (λ j m. has-marked noEvents i j h ∙ ap (λ b. eqb j i || b) (has-none j) ∙ or-false (eqb j i))
     ∙ filter-one i _ 0 (omega arith) h
-  where
-    or-false : (b : Bool) → (b || false) ≡ b
-    or-false true = refl
-    or-false false = refl
 
 pub elements-marked : (s : EventSet) (i j : ℕ) → i < 128 → (j ∈ elements (markedWith s i)) ↔ ((j ≡ i) ⊎ (j ∈ elements s))
 elements-marked s i j h = (
@@ -187,7 +185,7 @@ elements-union a b j = (
 
 pub size-most : (s : EventSet) → sizeOf s ≤ 128
 unfolding sizeOf elements
-size-most s = omega (arith, filter-length (has s) (countUp 128 0), count-length 128 0)
+size-most s = omega (arith, filter-length (has s) (range 0 128), length-range 0 128)
 
 -- a set that has a number is not empty
 pub size-pos : (s : EventSet) (j : ℕ) → has s j ≡ true → 0 < sizeOf s

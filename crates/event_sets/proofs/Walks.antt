@@ -13,12 +13,13 @@ use lib.Dec.{leb, ltb}
 use lib.Pow.{shr-shr}
 use Rattle.sequences.specs.Choice.{pick}
 use Rattle.sequences.specs.Members.{_∈_}
+use Rattle.sequences.specs.Range.{range, Rising}
 use Rattle.sequences.specs.Select.{filter}
 use Rattle.sequences.proofs.Booleans.{either-way, same-test}
-use Rattle.sequences.proofs.Select.{filter-nil, filter-yes, filter-no, filter-append, filter-in, filter-of}
+use Rattle.sequences.proofs.Range.{range-none, range-next, range-split, range-of}
+use Rattle.sequences.proofs.Select.{filter-nil, filter-yes, filter-no, filter-append, filter-in, filter-of, filter-all, filter-none, filter-same, filter-rising}
 use Rattle.event_sets.specs.declared.EventSet.{EventSet}
-use Rattle.event_sets.specs.Sets.{isSet, has, countUp, Rising, elements, firstOr, elementsFrom, nextFrom, nextBit}
-use Rattle.event_sets.proofs.Lists.{count-none, count-next, count-split, count-of, filter-all, filter-none, filter-same, filter-rising}
+use Rattle.event_sets.specs.Sets.{isSet, has, elements, firstOr, elementsFrom, nextFrom, nextBit}
 use Rattle.event_sets.proofs.Members.{has-low, has-high, elements-has, elements-below, elements-rising}
 use Rattle.event_sets.proofs.Words.{bit-one, bit-zero}
 
@@ -49,18 +50,18 @@ first-append d e (a ∷ l) m h = rw (lt-ltb a e (h a (List·Memᴰ·head refl)))
 -- ---- the elements from a number on
 
 -- by the numbers from there on
-pub from-count : (s : EventSet) (n : ℕ) → n ≤ 128 → elementsFrom s n ≡ filter (has s) (countUp (128 - n) n)
+pub from-count : (s : EventSet) (n : ℕ) → n ≤ 128 → elementsFrom s n ≡ filter (has s) (range n (128 - n))
 unfolding elementsFrom elements
 from-count s n h =
     let a : 128 ≡ n + (128 - n) = omega arith in
     let z : 0 + n ≡ n = omega arith in
-    let split : countUp 128 0 ≡ countUp n 0 ++ countUp (128 - n) n = ap (λ d. countUp d 0) a ∙ count-split n (128 - n) 0 ∙ ap (λ k. countUp n 0 ++ countUp (128 - n) k) z in
+    let split : range 0 128 ≡ range 0 n ++ range n (128 - n) = ap (λ d. range 0 d) a ∙ range-split 0 n (128 - n) ∙ ap (λ k. range 0 n ++ range k (128 - n)) z in
     rw (
       split,
-      filter-append (has s) (countUp n 0) (countUp (128 - n) n),
-      filter-append (leb n) (filter (has s) (countUp n 0)) (filter (has s) (countUp (128 - n) n)),
-      filter-none (leb n) (filter (has s) (countUp n 0)) (λ j m. lt-leb n j (omega (arith, count-of n 0 (filter-of (has s) (countUp n 0) m .0)))),
-      filter-all (leb n) (filter (has s) (countUp (128 - n) n)) (λ j m. le-leb n j (omega (arith, count-of (128 - n) n (filter-of (has s) (countUp (128 - n) n) m .0)))),
+      filter-append (has s) (range 0 n) (range n (128 - n)),
+      filter-append (leb n) (filter (has s) (range 0 n)) (filter (has s) (range n (128 - n))),
+      filter-none (leb n) (filter (has s) (range 0 n)) (λ j m. lt-leb n j (omega (arith, range-of 0 n (filter-of (has s) (range 0 n) m .0)))),
+      filter-all (leb n) (filter (has s) (range n (128 - n))) (λ j m. le-leb n j (omega (arith, range-of n (128 - n) (filter-of (has s) (range n (128 - n)) m .0)))),
     )
 
 pub from-start : (s : EventSet) → elementsFrom s 0 ≡ elements s
@@ -74,12 +75,12 @@ from-end s n h = filter-none (leb n) (elements s) (λ j m. lt-leb n j (omega (ar
 pub from-yes : (s : EventSet) (n : ℕ) → n < 128 → has s n ≡ true → elementsFrom s n ≡ n ∷ elementsFrom s (n + 1)
 from-yes s n h y =
     let a : 128 - n ≡ suc (128 - (n + 1)) = omega arith in
-    rw (from-count s n (omega arith), from-count s (n + 1) (omega arith), a, count-next (128 - (n + 1)) n) (filter-yes (has s) n (countUp (128 - (n + 1)) (n + 1)) y)
+    rw (from-count s n (omega arith), from-count s (n + 1) (omega arith), a, range-next n (128 - (n + 1))) (filter-yes (has s) n (range (n + 1) (128 - (n + 1))) y)
 
 pub from-no : (s : EventSet) (n : ℕ) → n < 128 → has s n ≡ false → elementsFrom s n ≡ elementsFrom s (n + 1)
 from-no s n h y =
     let a : 128 - n ≡ suc (128 - (n + 1)) = omega arith in
-    rw (from-count s n (omega arith), from-count s (n + 1) (omega arith), a, count-next (128 - (n + 1)) n) (filter-no (has s) n (countUp (128 - (n + 1)) (n + 1)) y)
+    rw (from-count s n (omega arith), from-count s (n + 1) (omega arith), a, range-next n (128 - (n + 1))) (filter-no (has s) n (range (n + 1) (128 - (n + 1))) y)
 
 -- ---- the next element
 
@@ -178,17 +179,17 @@ zeros-fewer (suc d) e n = rw (suc-add d e) (under-min (n % 2) (trailingZeros d (
 
 -- a test that goes by the bits of a word, from the number base on
 module _ (p : ℕ → Bool) (word base : ℕ) (agree : (j : ℕ) → base ≤ j → j < base + 64 → p j ≡ isSet word (j - base)) where
-  first-zeros : (d k : ℕ) → base ≤ k → k + d ≤ base + 64 → firstOr (k + d) (filter p (countUp d k)) ≡ k + trailingZeros d (word / 2 ^ (k - base))
+  first-zeros : (d k : ℕ) → base ≤ k → k + d ≤ base + 64 → firstOr (k + d) (filter p (range k d)) ≡ k + trailingZeros d (word / 2 ^ (k - base))
   unfolding firstOr trailingZeros
-  first-zeros zero k h l = rw (count-none k, filter-nil p)
+  first-zeros zero k h l = rw (range-none k, filter-nil p)
   first-zeros (suc d) k h l =
       let a : k + 1 - base ≡ k - base + 1 = omega arith in
       let half : word / 2 ^ (k - base) / 2 ≡ word / 2 ^ (k + 1 - base) = shr-shr word (k - base) 1 ∙ ap (λ n. word / 2 ^ n) (sym a) in
       let b : k + suc d ≡ k + 1 + d = omega arith in
       let same = agree k h (omega arith) in
       ⊎-elim
-      (λ y. rw (count-next d k, filter-yes p k (countUp d (k + 1)) y, bit-one word (k - base) (sym same ∙ y)) (omega arith))
-      (λ n. rw (count-next d k, filter-no p k (countUp d (k + 1)) n, bit-zero word (k - base) (sym same ∙ n), half, b) (omega (arith, first-zeros d (k + 1) (omega arith) (omega arith))))
+      (λ y. rw (range-next k d, filter-yes p k (range (k + 1) d) y, bit-one word (k - base) (sym same ∙ y)) (omega arith))
+      (λ n. rw (range-next k d, filter-no p k (range (k + 1) d) n, bit-zero word (k - base) (sym same ∙ n), half, b) (omega (arith, first-zeros d (k + 1) (omega arith) (omega arith))))
       (either-way (p k))
 
 bit-zeros : (word k : ℕ) → k ≤ 64 → nextBit word k ≡ k + trailingZeros (64 - k) (word / 2 ^ k)
@@ -201,7 +202,7 @@ pub bit-beyond : (word k : ℕ) → 64 ≤ k → nextBit word k ≡ 64
 unfolding nextBit firstOr
 bit-beyond word k h =
     let a : 64 - k ≡ 0 = omega arith in
-    rw (a, count-none k, filter-nil (isSet word))
+    rw (a, range-none k, filter-nil (isSet word))
 
 pub bit-is : (word k : ℕ) → k < 64 → nextBit word k ≡ min 64 (k + trailingZeros 64 (word / 2 ^ k))
 bit-is word k h =
@@ -236,19 +237,19 @@ unfolding nextFrom nextBit
 next-low s n h =
     let a : 128 - n ≡ 64 - n + 64 = omega arith in
     let b : n + (64 - n) ≡ 64 = omega arith in
-    let low : filter (has s) (countUp (64 - n) n) ≡ filter (isSet (s .low)) (countUp (64 - n) n) =
-    filter-same (has s) (isSet (s .low)) (countUp (64 - n) n) (λ j m. has-low s j (omega (arith, count-of (64 - n) n m))) in
-    let rest : firstOr 128 (filter (has s) (countUp 64 64)) ≡ 64 + nextBit (s .high) 0 =
+    let low : filter (has s) (range n (64 - n)) ≡ filter (isSet (s .low)) (range n (64 - n)) =
+    filter-same (has s) (isSet (s .low)) (range n (64 - n)) (λ j m. has-low s j (omega (arith, range-of n (64 - n) m))) in
+    let rest : firstOr 128 (filter (has s) (range 64 64)) ≡ 64 + nextBit (s .high) 0 =
     ap (firstOr 128) (sym (from-count s 64 (omega arith))) ∙ next-high s 64 (omega arith) in
     rw (
       from-count s n (omega arith),
       a,
-      count-split (64 - n) 64 n,
+      range-split n (64 - n) 64,
       b,
-      filter-append (has s) (countUp (64 - n) n) (countUp 64 64),
+      filter-append (has s) (range n (64 - n)) (range 64 64),
       low,
-      first-append 128 64 (filter (isSet (s .low)) (countUp (64 - n) n)) (filter (has s) (countUp 64 64))
-          (λ j m. omega (arith, count-of (64 - n) n (filter-of (isSet (s .low)) (countUp (64 - n) n) m .0))),
+      first-append 128 64 (filter (isSet (s .low)) (range n (64 - n))) (filter (has s) (range 64 64))
+          (λ j m. omega (arith, range-of n (64 - n) (filter-of (isSet (s .low)) (range n (64 - n)) m .0))),
       rest,
     )
 

@@ -1,12 +1,12 @@
 -- Sets of event numbers below 128, in two words: what a set has, how sets are made, and their elements in rising order.
 use mathlib.Core.Bool.{Bool, _&&_}
 use mathlib.Core.List.{List, [], _∷_}
-use Prim.Native.Nat.{ℕ, zero, suc, _+_, _-_, _/_, _%_, _^_, _<_}
+use Prim.Native.Nat.{ℕ, _-_, _/_, _%_, _^_, _<_}
 use lib.Bits.{bitOr}
 use lib.Dec.{eqb, leb, ltb}
 use lib.ListN.{length}
 use Rattle.sequences.specs.Choice.{pick}
-use Rattle.sequences.specs.Members.{_∈_}
+use Rattle.sequences.specs.Range.{range}
 use Rattle.sequences.specs.Select.{filter}
 use Rattle.event_sets.specs.declared.EventSet.{EventSet}
 
@@ -40,22 +40,12 @@ unionOf a b = record { low = bitOr (a .low) (b .low); high = bitOr (a .high) (b 
 
 -- ---- the elements
 
--- d numbers, counted up from k
-unfoldable pub countUp : ℕ → ℕ → List ℕ
-countUp zero k = []
-countUp (suc d) k = k ∷ countUp d (k + 1)
-
 -- the numbers that the set has, rising
 unfoldable pub elements : EventSet → List ℕ
-elements s = filter (has s) (countUp 128 0)
+elements s = filter (has s) (range 0 128)
 
 unfoldable pub sizeOf : EventSet → ℕ
 sizeOf s = length (elements s)
-
--- each number is below all that come after it
-unfoldable pub Rising : List ℕ → Type 0
-Rising [] = Unit
-Rising (a ∷ l) = ((b : ℕ) → b ∈ l → a < b) × Rising l
 
 -- ---- walking the elements
 
@@ -74,4 +64,4 @@ nextFrom s n = firstOr 128 (elementsFrom s n)
 
 -- the same for one word: the first place from k on whose bit is set; 64 where there is none
 unfoldable pub nextBit : ℕ → ℕ → ℕ
-nextBit word k = firstOr 64 (filter (isSet word) (countUp (64 - k) k))
+nextBit word k = firstOr 64 (filter (isSet word) (range k (64 - k)))

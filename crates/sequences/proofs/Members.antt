@@ -2,7 +2,15 @@
 use mathlib.Core.Path.{_≡_, refl, sym, ap, _∙_}
 use mathlib.Core.List.{List, [], _∷_, _++_, map, List·Memᴰ·head, List·Memᴰ·tail, List·Memᴰ·cases-cons, List·Memᴰ·not-nil, Memᴰ·append-left, Memᴰ·append-right, List·Memᴰ·append-cases}
 use mathlib.Core.Logic.{_⊎_, inl, inr, ⊎-elim}
+use Prim.Native.Nat.{_<_}
+use native.Mathlib.Omega.{arith}
+use lib.ListN.{length}
 use Rattle.sequences.specs.Members.{_∈_, SameMembers}
+
+-- a list with an element is not empty
+pub length-pos : {A : Type 0} {a : A} {l : List A} → a ∈ l → 0 < length l
+length-pos {l = []} m = absurd (List·Memᴰ·not-nil m)
+length-pos {l = b ∷ l} m = omega arith
 
 module _ {A B : Type 0} (f : A → B) where
   pub map-in : {a : A} (l : List A) → a ∈ l → f a ∈ map f l

@@ -3,9 +3,14 @@ use mathlib.Core.Path.{_≡_, refl, sym, ap, _∙_}
 use mathlib.Core.Bool.{Bool, true, false, not, _||_, _&&_}
 use mathlib.Core.List.{List, [], _∷_, _++_, map, List·Memᴰ·head, List·Memᴰ·tail, List·Memᴰ·cases-cons, List·Memᴰ·not-nil}
 use mathlib.Core.Logic.{_⊎_, inl, inr, ⊎-elim}
+use Prim.Native.Nat.{ℕ, _≤_}
+use native.Mathlib.Omega.{arith}
+use lib.ListN.{length}
 use Rattle.sequences.specs.Choice.{pick}
 use Rattle.sequences.specs.Loops.{fold}
 use Rattle.sequences.specs.Members.{_∈_, SameMembers}
+use Rattle.sequences.specs.Members.{_∈_}
+use Rattle.sequences.specs.Range.{Rising}
 use Rattle.sequences.specs.Select.{filter, any, all}
 use Rattle.sequences.proofs.Booleans.{either-way, never-both, or-cases, or-left, or-right, and-left, and-right, and-both, false-of-not-true, same-test}
 
@@ -53,6 +58,24 @@ module _ {A : Type 0} (p : A → Bool) where
       (List·Memᴰ·cases-cons (rw (filter-yes b l y) at m)))
       (λ z. (List·Memᴰ·tail (filter-of l (rw (filter-no b l z) at m) .0), filter-of l (rw (filter-no b l z) at m) .1))
       (either-way (p b))
+
+  -- all pass
+  pub filter-all : (l : List A) → ((a : A) → a ∈ l → p a ≡ true) → filter p l ≡ l
+  filter-all [] h = filter-nil
+  filter-all (a ∷ l) h = rw (filter-yes a l (h a (List·Memᴰ·head refl)), filter-all l (λ b m. h b (List·Memᴰ·tail m)))
+
+  -- none passes
+  pub filter-none : (l : List A) → ((a : A) → a ∈ l → p a ≡ false) → filter p l ≡ []
+  filter-none [] h = filter-nil
+  filter-none (a ∷ l) h = rw (filter-no a l (h a (List·Memᴰ·head refl))) (filter-none l (λ b m. h b (List·Memᴰ·tail m)))
+
+  pub filter-length : (l : List A) → length (filter p l) ≤ length l
+  filter-length [] = rw filter-nil (omega arith)
+  filter-length (a ∷ l) =
+      ⊎-elim
+      (λ y. rw (filter-yes a l y) (omega (arith, filter-length l)))
+      (λ n. rw (filter-no a l n) (omega (arith, filter-length l)))
+      (either-way (p a))
 
   pub any-in : {a : A} (l : List A) → a ∈ l → p a ≡ true → any p l ≡ true
   unfolding any
@@ -152,6 +175,16 @@ module _ {A : Type 0} (p q : A → Bool) where
   unfolding filter
   filter-same [] h = refl
   filter-same (a ∷ l) h = rw (h a (List·Memᴰ·head refl), filter-same l (λ b m. h b (List·Memᴰ·tail m)))
+
+-- what passes of rising numbers is rising
+pub filter-rising : (p : ℕ → Bool) (l : List ℕ) → Rising l → Rising (filter p l)
+unfolding Rising
+filter-rising p [] r = rw (filter-nil p) tt
+filter-rising p (a ∷ l) r =
+    ⊎-elim
+    (λ y. rw (filter-yes p a l y) ((λ b m. r .0 b (filter-of p l m .0)), filter-rising p l (r .1)))
+    (λ n. rw (filter-no p a l n) (filter-rising p l (r .1)))
+    (either-way (p a))
 
 -- a loop over those that pass is a loop over all that leaves the state where one does not
 module _ {S A B : Type 0} (f : S → B → S) (g : A → B) (q : A → Bool) where

@@ -5,18 +5,20 @@ use mathlib.Core.List.{List, [], _∷_, _++_, map, append-assoc, append-nil, Lis
 use mathlib.Core.Logic.{_⊎_, inl, inr, ⊎-elim}
 use Prim.Native.Nat.{ℕ, zero, _+_, _≤_, _<_}
 use native.Mathlib.Omega.{arith}
-use native.Mathlib.Decide.{ℕ-discrete}
+use native.Mathlib.Decide.{ℕ-discrete, decLt}
 use lib.Dec.{ltb, eqb}
-use lib.ListN.{length, getD, set, length-set}
-use lib.Seq.{append-snoc, getD-set-same, getD-set-other}
-use borrow.Author.Tests.{eq-eqb, eqb-true, eqb-false, lt-ltb, le-ltb, ltb-true, ltb-false, not-true}
+use lib.ListN.{length, getD, set, replicate, length-set, length-map, getD-replicate}
+use lib.Seq.{append-snoc, ext-getD, getD-set-same, getD-set-other}
+use borrow.Author.Tests.{eq-eqb, ne-eqb, eqb-true, eqb-false, lt-ltb, le-ltb, ltb-true, ltb-false, not-true}
 use Rattle.sequences.specs.Choice.{pick}
 use Rattle.sequences.specs.Loops.{fold}
 use Rattle.sequences.specs.Members.{_∈_, SameMembers}
+use Rattle.sequences.specs.Range.{range}
 use Rattle.sequences.specs.Select.{any}
 use Rattle.sequences.proofs.Booleans.{either-way, never-both, same-test, false-of-not-true, and-left, and-right, and-both, or-cases}
 use Rattle.sequences.proofs.Loops.{fold-none, fold-next}
 use Rattle.sequences.proofs.Members.{same-refl, same-sym, same-trans}
+use Rattle.sequences.proofs.Range.{length-range}
 use Rattle.sequences.proofs.Select.{any-in, any-of, any-none, none-of-any}
 use Rattle.timestamps.specs.declared.LocalTick.{LocalTick}
 use Rattle.timestamps.specs.declared.Timestamp.{Timestamp}
@@ -26,7 +28,7 @@ use Rattle.timestamps.specs.Join.{joinOf}
 use Rattle.timestamps.specs.Maxima.{maxima}
 use Rattle.timestamps.specs.Order.{before}
 use Rattle.timestamps.specs.Steps.{placed, news, addedTo, latestIn, maximalAt}
-use Rattle.timestamps.proofs.Composite.{Holds, OnePerLogger, same-stamp, members-of, members-in, members-none, stamp-in, members-compositeOf, compositeOf-same, compositeOf-canonical, each-place, tickOf-in, tickOf-none, Canonical}
+use Rattle.timestamps.proofs.Composite.{Holds, OnePerLogger, same-stamp, members-of, members-in, members-none, stamp-in, members-compositeOf, compositeOf-same, compositeOf-canonical, at-place, each-place, tickOf-in, tickOf-none, Canonical}
 use Rattle.timestamps.proofs.Maxima.{maxima-of, maxima-in, Covers, covers-same, covers-append, covers-trans, maxima-covered, maxima-covers, maxima-same}
 use Rattle.timestamps.proofs.Order.{Before, one-clock, before-one, before-is, before-irrefl, before-strict}
 
@@ -187,6 +189,34 @@ module _ (c : CompositeTimestamp) (s : Timestamp) (n : Sized c) (small : s .logg
         within = λ t m. Memᴰ·append-left (s ∷ []) m;
         reached = λ t m. ⊎-elim (λ i. inl i) (λ i. moved t (List·Memᴰ·eq-of-singleton i) (later-held ratio z)) (List·Memᴰ·append-cases (members c) m);
       }
+
+-- one timestamp added to none stands alone, wherever its place is
+module _ (s : Timestamp) where
+  alone-at : {B : Type 0} (z v : B) (f : ℕ → B) → s .logger < 8 → f (s .logger) ≡ v → ((k : ℕ) → (k ≡ s .logger → ⊥) → f k ≡ z)
+      → set (replicate 8 z) (s .logger) v ≡ map f loggerPlaces
+  alone-at z v f small here there =
+      ext-getD z (set (replicate 8 z) (s .logger) v) (map f loggerPlaces) (length-set (replicate 8 z) (s .logger) v ∙ sym (length-map loggerPlaces f ∙ length-range 0 8)) (λ k h.
+      let n : k < 8 = rw (length-set (replicate 8 z) (s .logger) v) at h in
+      elim (ℕ-discrete k (s .logger)) [
+        | yes e ↦ ap (λ j. getD (set (replicate 8 z) (s .logger) v) j z) e ∙ getD-set-same (replicate 8 z) (s .logger) v z small ∙ sym (at-place f z k n ∙ ap f e ∙ here)
+        | no d ↦ getD-set-other (replicate 8 z) (s .logger) k v z d ∙ getD-replicate 8 k z z n ∙ sym (at-place f z k n ∙ there k d)
+      ])
+
+  apart : (k : ℕ) → (k ≡ s .logger → ⊥) → ofLogger k s ≡ false
+  apart k d = ne-eqb (s .logger) k (λ e. d (sym e))
+
+  pub added-alone : addedTo noTimestamps s ≡ compositeOf (s ∷ [])
+  unfolding addedTo placed news compositeOf tickOf any range
+  added-alone = elim (decLt (s .logger) 8) [
+    | yes h ↦ rw (lt-ltb (s .logger) 8 h, getD-replicate 8 (s .logger) false false h) (λ i. record {
+      present = alone-at false true (λ k. any (ofLogger k) (s ∷ [])) h (rw (eq-eqb (s .logger) (s .logger) refl)) (λ k d. rw (apart k d)) i;
+      ticks = alone-at tickZero (s .tick) (tickOf (s ∷ [])) h (rw (eq-eqb (s .logger) (s .logger) refl)) (λ k d. rw (apart k d)) i;
+    })
+    | no h ↦ rw (le-ltb (s .logger) 8 (omega arith)) (λ i. record {
+      present = sym (each-place (λ k. any (ofLogger k) (s ∷ [])) (λ k. false) (λ k n. rw (apart k (λ e. omega (arith, e))))) i;
+      ticks = sym (each-place (tickOf (s ∷ [])) (λ k. tickZero) (λ k n. rw (apart k (λ e. omega (arith, e))))) i;
+    })
+  ]
 
 -- a whole list, one timestamp at a time
 pub latest-covers : (ratio : ℕ) (l : List Timestamp) (c : CompositeTimestamp) → Sized c → Placeable l → Covers (before ratio) (members (latestIn c l)) (members c ++ l)

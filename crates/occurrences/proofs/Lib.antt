@@ -1,0 +1,3 @@
+pub mod Combination
+pub mod Events
+pub mod Order

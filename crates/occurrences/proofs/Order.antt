@@ -1,0 +1,57 @@
+-- The order of occurrences, which is that of their composite timestamps.
+use mathlib.Core.Path.{_≡_, ap}
+use mathlib.Core.Bool.{Bool, true, false}
+use mathlib.Core.List.{List}
+use mathlib.Core.Logic.{⊎-elim}
+use Prim.Native.Nat.{ℕ}
+use Rattle.sequences.specs.Members.{_∈_}
+use Rattle.sequences.specs.Select.{any, all}
+use Rattle.sequences.proofs.Booleans.{never-both, false-of-not-true}
+use Rattle.sequences.proofs.Select.{any-in, any-of, all-in, all-of}
+use Rattle.timestamps.specs.declared.Timestamp.{Timestamp}
+use Rattle.timestamps.specs.declared.Relation.{Relation}
+use Rattle.timestamps.specs.Comparison.{allBefore, relationOf}
+use Rattle.timestamps.specs.Composite.{members}
+use Rattle.timestamps.specs.Maxima.{maxima, StrictOrder}
+use Rattle.timestamps.specs.Order.{before}
+use Rattle.timestamps.proofs.Maxima.{maxima-of, maxima-reach}
+use Rattle.timestamps.proofs.Order.{before-irrefl, before-trans}
+use Rattle.occurrences.specs.declared.Occurrence.{Occurrence}
+use Rattle.occurrences.specs.Occurrences.{isBefore}
+
+-- what the comparison answers
+pub before-is : (ratio : ℕ) (a b : Occurrence) (r : Relation) → r ≡ relationOf ratio (members (a .latest)) (members (b .latest)) → r .before ≡ isBefore ratio a b
+unfolding relationOf isBefore
+before-is ratio a b r e = ap (λ q. q .before) e
+
+module _ (ratio : ℕ) where
+  -- the order of timestamps, turned round
+  abbrev after : Timestamp → Timestamp → Bool
+  after s t = before ratio t s
+
+  after-strict : StrictOrder after
+  after-strict = record { irreflexive = before-irrefl ratio; transitive = λ a b c p q. before-trans ratio c b a q p }
+
+  -- timestamps of which there is at least one are not before themselves: the earliest has none before it
+  all-before-itself : (l : List Timestamp) {s : Timestamp} → s ∈ l → allBefore ratio l l ≡ true → ⊥
+  unfolding allBefore
+  all-before-itself l {s} m e = ⊎-elim first (λ t. first (t .1)) (maxima-reach after after-strict l s m)
+    where
+      first : {t : Timestamp} → t ∈ maxima after l → ⊥
+      first {t} i =
+          let (j, none) = maxima-of after l t i in
+          let (u, k, y) = any-of (λ x. before ratio x t) l (all-of (λ x. any (λ z. before ratio z x) l) l e j) in
+          never-both y (none u k)
+
+  -- an occurrence with at least one timestamp is not before itself
+  pub not-before-itself : (o : Occurrence) {s : Timestamp} → s ∈ members (o .latest) → isBefore ratio o o ≡ false
+  unfolding isBefore
+  not-before-itself o m = false-of-not-true _ (all-before-itself (members (o .latest)) m)
+
+  -- before carries on through a middle occurrence
+  pub before-carries : (a b c : Occurrence) → isBefore ratio a b ≡ true → isBefore ratio b c ≡ true → isBefore ratio a c ≡ true
+  unfolding isBefore allBefore
+  before-carries a b c p q = all-in _ (members (c .latest)) (λ u k.
+      let (t, i, y) = any-of (λ x. before ratio x u) (members (b .latest)) (all-of _ (members (c .latest)) q k) in
+      let (s, j, z) = any-of (λ x. before ratio x t) (members (a .latest)) (all-of _ (members (b .latest)) p i) in
+      any-in (λ x. before ratio x u) (members (a .latest)) j (before-trans ratio s t u z y))

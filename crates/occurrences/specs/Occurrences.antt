@@ -1,0 +1,25 @@
+-- Document 01, "How an event is worked": occurrences. An occurrence has a composite stamp and its events.
+use mathlib.Core.Bool.{Bool}
+use mathlib.Core.List.{[], _∷_}
+use Prim.Native.Nat.{ℕ}
+use Rattle.event_sets.specs.Sets.{markedWith, noEvents}
+use Rattle.timestamps.specs.declared.Timestamp.{Timestamp}
+use Rattle.timestamps.specs.Comparison.{allBefore}
+use Rattle.timestamps.specs.Composite.{compositeOf, members, noTimestamps}
+use Rattle.occurrences.specs.declared.Occurrence.{Occurrence}
+
+-- a file event: one stamp and its own number
+unfoldable pub ofEvent : Timestamp → ℕ → Occurrence
+ofEvent s number = record { latest = compositeOf (s ∷ []); events = markedWith noEvents number }
+
+-- a's stamp is before b's
+unfoldable pub isBefore : ℕ → Occurrence → Occurrence → Bool
+isBefore ratio a b = allBefore ratio (members (a .latest)) (members (b .latest))
+
+-- what stands in a place where there is no occurrence
+abbrev pub noOccurrence : Occurrence
+noOccurrence = record { latest = noTimestamps; events = noEvents }
+
+-- what an array of occurrences is read as past its end
+abbrev pub blank : Occurrence
+blank = record { latest = record { present = []; ticks = [] }; events = noEvents }
