@@ -9,7 +9,6 @@ use lib.ListN.{length}
 use Rattle.sequences.specs.Choice.{pick}
 use Rattle.sequences.specs.Loops.{fold}
 use Rattle.sequences.specs.Members.{_∈_, SameMembers}
-use Rattle.sequences.specs.Members.{_∈_}
 use Rattle.sequences.specs.Range.{Rising}
 use Rattle.sequences.specs.Select.{filter, any, all}
 use Rattle.sequences.proofs.Booleans.{either-way, never-both, or-cases, or-left, or-right, and-left, and-right, and-both, false-of-not-true, same-test}
