@@ -4,3 +4,4 @@ pub mod Pieces
 pub mod Sections
 pub mod Layouts
 pub mod Faults
+pub mod Prefixes

@@ -4,11 +4,12 @@ use mathlib.Core.List.{List, [], _∷_, _++_}
 use Prim.Native.Nat.{ℕ, zero, suc, _+_, _-_, _*_, _/_, _%_, _^_, _≤_, _<_}
 use native.Mathlib.Numerals.{add-one}
 use native.Mathlib.Omega.{arith}
-use native.Mathlib.Nat.{pow-suc, pow-le-pow-right, div-lt-iff-lt-mul, mod-lt, mod-eq-of-lt, div-eq-of-lt, div-add-mod', mul-add-div-right, mul-add-mod-self-right, mul-le-mul-right, add-zero, mul-assoc, add-mul}
+use native.Mathlib.Nat.{mod-one, mul-comm, add-comm, zero-add, suc-add, div-div-eq-div-mul, pow-suc, pow-le-pow-right, mod-lt, mod-eq-of-lt, div-eq-of-lt, mul-add-div-right, mul-add-mod-self-right, mul-le-mul-right, add-zero, mul-assoc, add-mul}
 use lib.ListN.{length, getD, take, drop, length-append, length-drop}
 use lib.Seq.{length-take-le, take-add, drop-drop, getD-drop, drop-cons}
 use lib.Dec.{lit<}
 use lib.Pow.{pow-add}
+use lib.Arith.{mod-mul}
 use Rattle.forms.specs.Bytes.{bigEndian, valueOf, valueAt, Bytes}
 
 pub positive : (w : ℕ) → 0 < 256 ^ w
@@ -18,14 +19,16 @@ positive (suc w) = omega (arith, pow-suc 256 w, positive w)
 pub length-bigEndian : (w v : ℕ) → length (bigEndian w v) ≡ w
 unfolding bigEndian
 length-bigEndian zero v = refl
-length-bigEndian (suc w) v = ap suc (length-bigEndian w (v % 256 ^ w))
+length-bigEndian (suc w) v = ap suc (length-bigEndian w v)
 
 -- the value of the bytes of a value
-pub value-bigEndian : (w v : ℕ) → v < 256 ^ w → valueOf (bigEndian w v) ≡ v
+value-low : (w v : ℕ) → valueOf (bigEndian w v) ≡ v % 256 ^ w
 unfolding bigEndian valueOf
-value-bigEndian zero v h = omega arith
-value-bigEndian (suc w) v h =
-    rw (length-bigEndian w (v % 256 ^ w), value-bigEndian w (v % 256 ^ w) (mod-lt v (positive w))) (div-add-mod' v (256 ^ w))
+value-low zero v = sym (mod-one v)
+value-low (suc w) v = rw (length-bigEndian w v, value-low w v, pow-suc 256 w, mul-comm (256 ^ w) 256) (sym (mod-mul v (lit< tt) (positive w)))
+
+pub value-bigEndian : (w v : ℕ) → v < 256 ^ w → valueOf (bigEndian w v) ≡ v
+value-bigEndian w v h = value-low w v ∙ mod-eq-of-lt h
 
 -- a value of n bytes is below 256 ^ n
 pub value-bound : (l : List ℕ) → Bytes l → valueOf l < 256 ^ length l
@@ -36,6 +39,18 @@ value-bound (x ∷ l) h =
     let c : x ≤ 255 = omega arith in
     omega (arith, pow-suc 256 (length l), value-bound l (λ i. h (suc i)), mul-le-mul-right (256 ^ length l) c)
 
+-- what lies above the lowest w bytes does not matter
+bigEndian-low : (w n x v : ℕ) → w ≤ n → bigEndian w (x * 256 ^ n + v) ≡ bigEndian w v
+unfolding bigEndian
+bigEndian-low zero n x v h = refl
+bigEndian-low (suc w) n x v h =
+    let k : n ≡ n - suc w + 1 + w = omega arith in
+    let d : (x * 256 ^ n + v) / 256 ^ w ≡ x * 256 ^ (n - suc w) * 256 + v / 256 ^ w =
+    ap (λ m. (x * 256 ^ m + v) / 256 ^ w) k
+    ∙ rw (pow-add 256 (n - suc w + 1) w, pow-add 256 (n - suc w) 1, ← mul-assoc x (256 ^ (n - suc w) * 256 ^ 1) (256 ^ w), ← mul-assoc x (256 ^ (n - suc w)) (256 ^ 1))
+    (mul-add-div-right (positive w) (x * 256 ^ (n - suc w) * 256) v) in
+    rw (d, mul-add-mod-self-right (x * 256 ^ (n - suc w)) 256 (v / 256 ^ w), bigEndian-low w n x v (omega arith))
+
 -- the bytes of the value of bytes
 pub bigEndian-value : (l : List ℕ) → Bytes l → bigEndian (length l) (valueOf l) ≡ l
 unfolding bigEndian valueOf
@@ -43,14 +58,20 @@ bigEndian-value [] h = refl
 bigEndian-value (x ∷ l) h =
     let t : Bytes l = λ i. h (suc i) in
     let v : valueOf l < 256 ^ length l = value-bound l t in
-    rw (mul-add-div-right (positive (length l)) x (valueOf l), div-eq-of-lt v, mul-add-mod-self-right x (256 ^ length l) (valueOf l), mod-eq-of-lt v, bigEndian-value l t, add-zero)
+    rw (mul-add-div-right (positive (length l)) x (valueOf l), div-eq-of-lt v, add-zero, mod-eq-of-lt (h 0), bigEndian-low (length l) (length l) x (valueOf l) (omega arith), bigEndian-value l t)
 
--- the bytes of a value that fits are bytes
-pub bytes-bigEndian : (w v : ℕ) → v < 256 ^ w → Bytes (bigEndian w v)
+-- they are bytes
+pub bytes-bigEndian : (w v : ℕ) → Bytes (bigEndian w v)
 unfolding bigEndian
-bytes-bigEndian zero v h i = lit< tt
-bytes-bigEndian (suc w) v h zero = div-lt-iff-lt-mul (positive w) .1 (omega (arith, pow-suc 256 w))
-bytes-bigEndian (suc w) v h (suc i) = bytes-bigEndian w (v % 256 ^ w) (mod-lt v (positive w)) i
+bytes-bigEndian zero v i = lit< tt
+bytes-bigEndian (suc w) v zero = mod-lt (v / 256 ^ w) (lit< tt)
+bytes-bigEndian (suc w) v (suc i) = bytes-bigEndian w v i
+
+-- the bytes of two parts
+pub bigEndian-parts : (m n v : ℕ) → bigEndian (m + n) v ≡ bigEndian m (v / 256 ^ n) ++ bigEndian n v
+unfolding bigEndian
+bigEndian-parts zero n v = rw (zero-add n)
+bigEndian-parts (suc m) n v = rw (suc-add m n, add-comm m n, pow-add 256 n m, ← div-div-eq-div-mul v (256 ^ n) (256 ^ m), add-comm n m, bigEndian-parts m n v)
 
 -- the value of two parts
 pub value-append : (a c : List ℕ) → valueOf (a ++ c) ≡ valueOf a * 256 ^ length c + valueOf c

@@ -3,10 +3,10 @@ use Prim.Native.Nat.{ℕ, zero, suc, _+_, _*_, _/_, _%_, _^_, _<_}
 use mathlib.Core.List.{List, [], _∷_}
 use lib.ListN.{length, getD, take, drop}
 
--- v in w bytes, the highest first
+-- v in w bytes, the highest first; of a number that needs more, its lowest w bytes
 unfoldable pub bigEndian : ℕ → ℕ → List ℕ
 bigEndian zero v = []
-bigEndian (suc w) v = v / 256 ^ w ∷ bigEndian w (v % 256 ^ w)
+bigEndian (suc w) v = v / 256 ^ w % 256 ∷ bigEndian w v
 
 -- the number that bytes make, the highest first
 unfoldable pub valueOf : List ℕ → ℕ
