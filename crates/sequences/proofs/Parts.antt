@@ -1,6 +1,6 @@
--- Parts of a list, and the elements of a mapped one.
-use mathlib.Core.Path.{_≡_, refl, sym, ap, _∙_}
-use mathlib.Core.List.{List, [], _∷_, map}
+-- Parts of a list, and its elements by their places.
+use mathlib.Core.Path.{_≡_, refl, sym, subst, _∙_}
+use mathlib.Core.List.{List, [], _∷_, map, List·Memᴰ·not-nil, List·Memᴰ·cases-cons}
 use mathlib.Core.Logic.{⊎-elim}
 use Prim.Native.Nat.{ℕ, zero, suc, _≤_, _<_, min}
 use native.Mathlib.Nat.{not-suc-le-zero, le-of-suc-le-suc}
@@ -9,6 +9,7 @@ use lib.ListN.{length, getD, take}
 use lib.Seq.{take-all}
 use lib.Dec.{leb}
 use borrow.Author.Tests.{leb-true, leb-false}
+use Rattle.sequences.specs.Members.{_∈_}
 use Rattle.sequences.proofs.Booleans.{either-way}
 
 -- within the list the two defaults do not matter
@@ -23,3 +24,9 @@ take-min n m k l e q =
     ⊎-elim (λ h. let j = leb-true n m h in let r : k ≡ n = omega arith in rw r)
     (λ h. let j = leb-false n m h in take-all k l (omega arith) ∙ sym (take-all n l (omega arith)))
     (either-way (leb n m))
+
+-- what holds at each place holds of each member
+pub member-at : {A : Type 0} (P : A → Type 0) (l : List A) (d : A) → ((i : ℕ) → i < length l → P (getD l i d)) → {x : A} → x ∈ l → P x
+member-at P [] d h m = absurd (List·Memᴰ·not-nil m)
+member-at P (a ∷ l) d h m =
+    ⊎-elim (λ e. subst P (sym e) (h 0 (omega arith))) (λ n. member-at P l d (λ i k. h (suc i) (omega arith)) n) (List·Memᴰ·cases-cons m)
