@@ -1,13 +1,13 @@
 -- Forms: what stands at a place is what was laid out there, and the other way round.
 use mathlib.Core.Path.{_≡_, refl, sym, ap, subst, _∙_}
 use mathlib.Core.List.{List, [], _∷_, _++_, append-assoc, append-nil}
-use Prim.Native.Nat.{ℕ, zero, suc, _+_, _*_, _^_, _≤_, _<_}
+use Prim.Native.Nat.{ℕ, zero, suc, _+_, _*_, _≤_, _<_}
 use native.Mathlib.Numerals.{add-one}
 use native.Mathlib.Omega.{arith}
-use native.Mathlib.Nat.{not-suc-le-zero, le-of-suc-le-suc, mul-suc, add-assoc, add-zero, mul-zero, add-comm}
+use native.Mathlib.Nat.{not-suc-le-zero, le-of-suc-le-suc, mul-suc, add-zero, mul-zero}
 use lib.ListN.{length, getD, take, drop, length-append}
 use lib.Seq.{take-add, drop-drop, take-at, drop-at}
-use Rattle.forms.specs.Bytes.{bigEndian, valueOf, Bytes}
+use Rattle.forms.specs.Bytes.{bigEndian, Bytes}
 use Rattle.forms.specs.Forms.{Form, number, pair, via, each, values}
 use Rattle.forms.proofs.Numbers.{length-bigEndian, value-bigEndian, value-bound, bigEndian-value, bytes-take, bytes-drop, length-part}
 

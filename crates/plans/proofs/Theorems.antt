@@ -2,11 +2,10 @@
 -- every such plan are accepted, with that very plan. Each list has one answer: a plan, or one number of the table.
 use mathlib.Core.Path.{_≡_, refl, sym, ap, subst, _∙_}
 use mathlib.Core.List.{List, [], _∷_, _++_, append-assoc, append-nil}
-use mathlib.Core.Bool.{Bool, true, false}
 use mathlib.Core.Logic.{_⊎_, inl, inr, ⊎-elim}
-use Prim.Native.Nat.{ℕ, zero, suc, _+_, _≤_, _<_}
+use Prim.Native.Nat.{ℕ, _+_, _≤_}
 use native.Mathlib.Omega.{arith}
-use lib.ListN.{length, getD, take, drop, length-append}
+use lib.ListN.{length, getD, drop, length-append}
 use lib.Seq.{take-all}
 use borrow.Author.Tests.{le-ltb}
 use Rattle.forms.specs.Bytes.{Bytes}
@@ -14,7 +13,7 @@ use Rattle.forms.specs.Forms.{number, sectionBytes}
 use Rattle.forms.specs.Sections.{within, Read, got, bad, then, section, ended}
 use Rattle.forms.proofs.Forms.{number-laws}
 use Rattle.forms.proofs.Layouts.{SectionOk, then-got, ended-got, section-laid, section-read, rest, room}
-use Rattle.forms.proofs.Faults.{then-bad, ended-bad, Proper, no-fault, unless-proper, section-bad}
+use Rattle.forms.proofs.Faults.{then-bad, ended-bad, no-fault, unless-proper, section-bad}
 use Rattle.plans.specs.Layout.{Plan, node, planBytes}
 use Rattle.plans.specs.Limits.{PlanOk}
 use Rattle.plans.specs.Reader.{clocks, above, loggers, kinds, isInput, nodes, planAt, PlanAnswer, accepted, refused, answered, readPlan}

@@ -1,7 +1,7 @@
 -- `plans::read_nodes`: the count, and a loop. The invariant: the nodes that are left, read from here after those that are held,
 -- give the section.
 use mathlib.Core.Path.{_≡_, refl, sym, _∙_}
-use Prim.Native.Nat.{_+_, _-_, _≤_, _<_}
+use Prim.Native.Nat.{_-_, _≤_}
 use mathlib.Core.List.{[]}
 use native.Mathlib.Omega.{arith}
 use lib.ListN.{length, take, length-set}

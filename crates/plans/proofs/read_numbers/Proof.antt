@@ -1,7 +1,7 @@
 -- `plans::read_numbers`: the count, and a loop. The invariant: the numbers that are left, read from here after those that are
 -- held, are what the loop began to read; and a number is above those held from `least` on.
 use mathlib.Core.Path.{_≡_, refl, sym, _∙_}
-use Prim.Native.Nat.{ℕ, _+_, _-_, _≤_, _<_}
+use Prim.Native.Nat.{ℕ, _-_, _≤_, _<_}
 use mathlib.Core.List.{[]}
 use native.Mathlib.Omega.{arith}
 use lib.ListN.{length, take, length-set}
