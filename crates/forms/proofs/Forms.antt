@@ -1,21 +1,22 @@
 -- Forms: what stands at a place is what was laid out there, and the other way round.
 use mathlib.Core.Path.{_≡_, refl, sym, ap, subst, _∙_}
 use mathlib.Core.List.{List, [], _∷_, _++_, append-assoc, append-nil}
-use Prim.Native.Nat.{ℕ, zero, suc, _+_, _*_, _^_, _≤_, _<_}
+use Prim.Native.Nat.{ℕ, zero, suc, _+_, _*_, _≤_, _<_}
 use native.Mathlib.Numerals.{add-one}
 use native.Mathlib.Omega.{arith}
-use native.Mathlib.Nat.{not-suc-le-zero, le-of-suc-le-suc, mul-suc, add-assoc, add-zero, mul-zero, add-comm}
+use native.Mathlib.Nat.{not-suc-le-zero, le-of-suc-le-suc, mul-suc, add-zero, mul-zero}
 use lib.ListN.{length, getD, take, drop, length-append}
 use lib.Seq.{take-add, drop-drop, take-at, drop-at}
-use Rattle.forms.specs.Bytes.{bigEndian, valueOf, Bytes}
+use Rattle.forms.specs.Bytes.{bigEndian, Bytes}
 use Rattle.forms.specs.Forms.{Form, number, pair, via, each, values}
-use Rattle.forms.proofs.Numbers.{length-bigEndian, value-bigEndian, value-bound, bigEndian-value, bytes-take, bytes-drop, length-part}
+use Rattle.forms.proofs.Numbers.{length-bigEndian, value-bigEndian, value-bound, bigEndian-value, bytes-bigEndian, bytes-append, bytes-take, bytes-drop, length-part}
 
 pub record Laws {A : Type 0} (f : Form A) : Type 0 where
   pub long : (a : A) → length (f .bytes a) ≡ f .width
   pub back : (a : A) (b y : List ℕ) (at : ℕ) → f .fits a → drop at b ≡ f .bytes a ++ y → f .value b at ≡ a
   pub forth : (b : List ℕ) (at : ℕ) → Bytes b → at + f .width ≤ length b → f .bytes (f .value b at) ≡ take (f .width) (drop at b)
   pub fit : (b : List ℕ) (at : ℕ) → Bytes b → at + f .width ≤ length b → f .fits (f .value b at)
+  pub small : (a : A) → f .fits a → Bytes (f .bytes a)
 
 pub number-laws : (w : ℕ) → Laws (number w)
 number-laws w =
@@ -24,6 +25,7 @@ number-laws w =
       back = λ a b y at h e. rw (e, take-at (bigEndian w a) y w (length-bigEndian w a)) (value-bigEndian w a h);
       forth = λ b at h r. rw (length-part b at w r) at (bigEndian-value (take w (drop at b)) (bytes-take w (drop at b) (bytes-drop at b h)));
       fit = λ b at h r. rw (length-part b at w r) at (value-bound (take w (drop at b)) (bytes-take w (drop at b) (bytes-drop at b h)));
+      small = bytes-bigEndian w;
     }
 
 module _ {A B : Type 0} (f : Form A) (g : Form B) (F : Laws f) (G : Laws g) where
@@ -41,6 +43,7 @@ module _ {A B : Type 0} (f : Form A) (g : Form B) (F : Laws f) (G : Laws g) wher
         forth = λ b at h r.
             rw (F .forth b at h (omega arith), G .forth b (at + f .width) h (omega arith), take-add (f .width) (g .width) (drop at b), drop-drop (f .width) at b);
         fit = λ b at h r. (F .fit b at h (omega arith), G .fit b (at + f .width) h (omega arith));
+        small = λ p h. bytes-append (f .bytes (p .0)) (g .bytes (p .1)) (F .small (p .0) (h .0)) (G .small (p .1) (h .1));
       }
 
 pub via-laws : {A B : Type 0} (to : A → B) (from : B → A) (f : Form A) → Laws f → ((a : A) → from (to a) ≡ a) → ((b : B) → to (from b) ≡ b) → Laws (via to from f)
@@ -50,6 +53,7 @@ via-laws to from f F l r =
       back = λ a b y at h e. ap to (F .back (from a) b y at h e) ∙ r a;
       forth = λ b at h k. ap (f .bytes) (l (f .value b at)) ∙ F .forth b at h k;
       fit = λ b at h k. subst (f .fits) (sym (l (f .value b at))) (F .fit b at h k);
+      small = λ b h. F .small (from b) h;
     }
 
 -- ---- entries one after the other

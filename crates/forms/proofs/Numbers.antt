@@ -1,7 +1,7 @@
 -- Big-endian numbers: the value of the bytes, and the bytes of the value, at every width.
-use mathlib.Core.Path.{_≡_, refl, sym, ap, _∙_}
+use mathlib.Core.Path.{_≡_, refl, ap, _∙_}
 use mathlib.Core.List.{List, [], _∷_, _++_}
-use Prim.Native.Nat.{ℕ, zero, suc, _+_, _-_, _*_, _/_, _%_, _^_, _≤_, _<_}
+use Prim.Native.Nat.{ℕ, zero, suc, _+_, _*_, _%_, _^_, _≤_, _<_}
 use native.Mathlib.Numerals.{add-one}
 use native.Mathlib.Omega.{arith}
 use native.Mathlib.Nat.{mod-one, mul-comm, add-comm, zero-add, suc-add, div-div-eq-div-mul, pow-suc, pow-le-pow-right, mod-lt, mod-eq-of-lt, div-eq-of-lt, mul-add-div-right, mul-add-mod-self-right, mul-le-mul-right, add-zero, mul-assoc, add-mul}
@@ -80,7 +80,7 @@ value-append [] c = omega arith
 value-append (x ∷ a) c =
     rw (length-append a c, pow-add 256 (length a) (length c), value-append a c, add-mul, mul-assoc) (omega arith)
 
--- parts of bytes are bytes
+-- parts of bytes are bytes, and bytes one after the other
 pub bytes-drop : (n : ℕ) (l : List ℕ) → Bytes l → Bytes (drop n l)
 bytes-drop n l h i = rw getD-drop (h (n + i))
 
@@ -89,6 +89,11 @@ bytes-take zero l h i = lit< tt
 bytes-take (suc n) [] h i = lit< tt
 bytes-take (suc n) (x ∷ l) h zero = h 0
 bytes-take (suc n) (x ∷ l) h (suc i) = bytes-take n l (λ j. h (suc j)) i
+
+pub bytes-append : (a c : List ℕ) → Bytes a → Bytes c → Bytes (a ++ c)
+bytes-append [] c h k i = k i
+bytes-append (x ∷ a) c h k zero = h 0
+bytes-append (x ∷ a) c h k (suc i) = bytes-append a c (λ j. h (suc j)) k i
 
 module _ (b : List ℕ) (at : ℕ) where
   pub length-part : (n : ℕ) → at + n ≤ length b → length (take n (drop at b)) ≡ n

@@ -1,5 +1,5 @@
 -- One piece of a file: how a reader's answer and the definition `piece` agree.
-use mathlib.Core.Path.{_≡_, refl, sym, ap, _∙_}
+use mathlib.Core.Path.{_≡_, refl, sym, _∙_}
 use mathlib.Core.List.{List}
 use mathlib.Core.Bool.{Bool, true, false, _&&_}
 use Prim.Native.Nat.{ℕ, _+_, _≤_, _<_}
@@ -12,7 +12,6 @@ use Rattle.forms.specs.Bytes.{valueAt}
 use Rattle.forms.specs.Forms.{Form, number}
 use Rattle.forms.specs.Sections.{unless, within, outside, Read, got, bad, then, judged, piece}
 use Rattle.forms.specs.Views.{numberRead, readOf, seen}
-use Rattle.forms.specs.declared.NumberRead.{NumberRead}
 use Rattle.forms.specs.declared.NumberRead.the-variants.{CutShort, Outside, Value}
 
 -- ---- tests

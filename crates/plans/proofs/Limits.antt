@@ -1,8 +1,8 @@
 -- The limits of a plan, and that no entry of it has a fault: the same.
-use mathlib.Core.Path.{_≡_, refl, sym, ap, subst, _∙_}
-use mathlib.Core.List.{List, [], _∷_, _++_}
-use mathlib.Core.Bool.{Bool, true, false, _&&_, _||_}
-use mathlib.Core.Logic.{_⊎_, inl, inr, ⊎-elim}
+use mathlib.Core.Path.{_≡_, refl, sym, _∙_}
+use mathlib.Core.List.{List, [], _∷_}
+use mathlib.Core.Bool.{true, _&&_}
+use mathlib.Core.Logic.{inl, inr, ⊎-elim}
 use Prim.Native.Nat.{ℕ, zero, suc, _+_, _-_, _≤_, _<_}
 use native.Mathlib.Numerals.{add-one}
 use native.Mathlib.Omega.{arith}
@@ -11,7 +11,7 @@ use lib.Seq.{take-suc, length-take-le}
 use lib.Dec.{leb, ltb}
 use borrow.Author.Tests.{ltb-true, leb-true, lt-ltb, le-leb}
 use Rattle.sequences.proofs.Booleans.{and-left, and-right, and-both, or-cases, or-left, or-right}
-use Rattle.forms.specs.Sections.{within, unless, Section}
+use Rattle.forms.specs.Sections.{within}
 use Rattle.forms.proofs.Pieces.{unless-none, within-in, within-of, outside-in, outside-none}
 use Rattle.forms.proofs.Layouts.{Fine, SectionOk, fine-at, at-fine}
 use Rattle.plans.specs.Layout.{Plan, node}

@@ -1,19 +1,18 @@
 -- Laws of the plan's entries and sections, as the code's proofs cite them.
-use mathlib.Core.Path.{_≡_, refl, sym, ap, _∙_}
+use mathlib.Core.Path.{_≡_, refl, sym, ap}
 use mathlib.Core.List.{List, [], _∷_, _++_}
 use mathlib.Core.Bool.{Bool, true, false, _&&_}
-use Prim.Native.Nat.{ℕ, zero, suc, _+_, _≤_, _<_}
+use Prim.Native.Nat.{ℕ, _+_, _≤_, _<_}
 use native.Mathlib.Numerals.{add-one}
 use native.Mathlib.Omega.{arith}
 use lib.ListN.{length, getD, take, set}
-use lib.Seq.{take-suc}
 use lib.Dec.{leb, ltb}
 use borrow.Author.Tests.{le-leb}
 use Rattle.sequences.specs.Choice.{pick}
 use Rattle.sequences.proofs.Arrays.{append-room}
 use Rattle.forms.specs.Bytes.{valueAt, Bytes}
-use Rattle.forms.specs.Forms.{Form, number, pair, via}
-use Rattle.forms.specs.Sections.{unless, within, outside, piece}
+use Rattle.forms.specs.Forms.{number, pair}
+use Rattle.forms.specs.Sections.{unless, outside, piece}
 use Rattle.forms.proofs.Forms.{Laws, number-laws, pair-laws, via-laws}
 use Rattle.forms.proofs.Pieces.{piece-same}
 use Rattle.plans.specs.Layout.{toNode, fromNode, node}

@@ -2,19 +2,19 @@
 -- every such plan are accepted, with that very plan. Each list has one answer: a plan, or one number of the table.
 use mathlib.Core.Path.{_≡_, refl, sym, ap, subst, _∙_}
 use mathlib.Core.List.{List, [], _∷_, _++_, append-assoc, append-nil}
-use mathlib.Core.Bool.{Bool, true, false}
 use mathlib.Core.Logic.{_⊎_, inl, inr, ⊎-elim}
-use Prim.Native.Nat.{ℕ, zero, suc, _+_, _≤_, _<_}
+use Prim.Native.Nat.{ℕ, _+_, _≤_}
 use native.Mathlib.Omega.{arith}
-use lib.ListN.{length, getD, take, drop, length-append}
+use lib.ListN.{length, getD, drop, length-append}
 use lib.Seq.{take-all}
 use borrow.Author.Tests.{le-ltb}
 use Rattle.forms.specs.Bytes.{Bytes}
 use Rattle.forms.specs.Forms.{number, sectionBytes}
 use Rattle.forms.specs.Sections.{within, Read, got, bad, then, section, ended}
+use Rattle.forms.proofs.Numbers.{bytes-append}
 use Rattle.forms.proofs.Forms.{number-laws}
-use Rattle.forms.proofs.Layouts.{SectionOk, then-got, ended-got, section-laid, section-read, rest, room}
-use Rattle.forms.proofs.Faults.{then-bad, ended-bad, Proper, no-fault, unless-proper, section-bad}
+use Rattle.forms.proofs.Layouts.{SectionOk, section-bytes, then-got, ended-got, section-laid, section-read, rest, room}
+use Rattle.forms.proofs.Faults.{then-bad, ended-bad, no-fault, unless-proper, section-bad}
 use Rattle.plans.specs.Layout.{Plan, node, planBytes}
 use Rattle.plans.specs.Limits.{PlanOk}
 use Rattle.plans.specs.Reader.{clocks, above, loggers, kinds, isInput, nodes, planAt, PlanAnswer, accepted, refused, answered, readPlan}
@@ -136,7 +136,22 @@ read-laid b p e k =
 pub laid-out-is-accepted : (p : Plan) → PlanOk p → readPlan (planBytes p) ≡ accepted p
 laid-out-is-accepted p k = read-laid (planBytes p) p refl (ok-fine p k)
 
--- so the bytes tell one plan from another
+-- which are bytes
+pub laid-out-is-bytes : (p : Plan) → PlanOk p → Bytes (planBytes p)
+unfolding planBytes
+laid-out-is-bytes p k =
+    let f = ok-fine p k in
+    let C = sectionBytes (number 4) (p .ratio ∷ []) in
+    let L = sectionBytes (number 2) (p .loggers) in
+    let K = sectionBytes (number 2) (p .kinds) in
+    let N = sectionBytes node (p .nodes) in
+    bytes-append (C ++ L ++ K) N
+    (bytes-append (C ++ L) K
+    (bytes-append C L (section-bytes clocks (number-laws 4) (p .ratio ∷ []) (omega arith) (f .clocks-fine)) (section-bytes loggers (number-laws 2) (p .loggers) (omega arith) (f .loggers-fine)))
+    (section-bytes kinds (number-laws 2) (p .kinds) (omega arith) (f .kinds-fine)))
+    (section-bytes (nodes (length (p .kinds))) node-laws (p .nodes) (omega arith) (f .nodes-fine))
+
+-- so they tell one plan from another
 pub layout-tells : (p q : Plan) → PlanOk p → PlanOk q → planBytes p ≡ planBytes q → p ≡ q
 layout-tells p q h k e =
     ap (λ (a : PlanAnswer). a .plan) (sym (laid-out-is-accepted p h) ∙ ap readPlan e ∙ laid-out-is-accepted q k)

@@ -1,11 +1,10 @@
 -- The whole file: what `readPlan` is, from what its sections are in turn.
-use mathlib.Core.Path.{_≡_, refl}
+use mathlib.Core.Path.{_≡_}
 use mathlib.Core.List.{List}
 use Prim.Native.Nat.{ℕ, _≤_, _<_}
 use lib.ListN.{length, getD}
 use borrow.Author.Tests.{lt-ltb, le-ltb}
 use Rattle.forms.specs.Sections.{got, bad, section}
-use Rattle.plans.specs.Layout.{Plan}
 use Rattle.plans.specs.Reader.{clocks, loggers, kinds, nodes, planAt, accepted, refused, readPlan}
 use Rattle.plans.specs.declared.Node.{Node}
 

@@ -24,6 +24,7 @@ clocks =
     }
 
 -- ---- loggers, 1 to 8, and kinds, 1 to 32: numbers, each above the one before
+-- above the last of those before it, if there is one
 abbrev pub above : List ℕ → ℕ → Bool
 above [] v = true
 above (x ∷ []) v = ltb x v
@@ -51,6 +52,7 @@ kinds = numbers 32 (numberOf KindCount) (numberOf KindNumber)
 abbrev pub isInput : ℕ → ℕ → ℕ → Bool
 isInput kinds place x = ltb x kinds || (leb 32768 x && ltb (x - 32768) place)
 
+-- the fault of a node at a place, under so many kinds
 abbrev pub nodeFault : ℕ → ℕ → Node → ℕ
 nodeFault kinds place n =
     unless (within 1 3 (n .operator)) (numberOf Operator)

@@ -2,7 +2,7 @@
 ghost use mathlib.Core.Path.{_≡_};
 ghost use Prim.Native.Nat.{_+_, _<_, _≤_};
 ghost use mathlib.Core.List.{[], _∷_};
-ghost use lib.ListN.{length, take};
+ghost use lib.ListN.{length, take, replicate};
 ghost use lib.Dec.{eqb};
 ghost use Rattle.forms.specs.Forms.{number};
 ghost use Rattle.forms.specs.Sections.{outside, piece, section};
@@ -10,8 +10,8 @@ ghost use Rattle.forms.specs.Views.{seen};
 ghost use Rattle.plans.specs.Faults.{numberOf};
 ghost use Rattle.plans.specs.Layout.{node};
 ghost use Rattle.plans.specs.Limits.{noNode};
-ghost use Rattle.plans.specs.Reader.{clocks, numbers, nodes, isInput, nodeFault, refused, readPlan};
-ghost use Rattle.plans.specs.Views.{planOf, answerOf};
+ghost use Rattle.plans.specs.Reader.{clocks, numbers, loggers, kinds, nodes, isInput, nodeFault, refused, readPlan};
+ghost use Rattle.plans.specs.Views.{planOf, answerOf, NumbersAre};
 
 // A node entry, with the numbers of the file.
 pub struct Node {
@@ -126,6 +126,32 @@ struct NodesRead {
     at: usize,
 }
 
+impl NumbersRead {
+    fn stopped(fault: PlanFault, at: usize) -> Self
+        ensures { λ r. ⌜ r ≡ record { fault = fault; numbers = replicate 32 0; count = 0; at = at } ⌝ }
+    {
+        NumbersRead {
+            fault,
+            numbers: [0; 32],
+            count: 0,
+            at,
+        }
+    }
+}
+
+impl NodesRead {
+    fn stopped(fault: PlanFault, at: usize) -> Self
+        ensures { λ r. ⌜ r ≡ record { fault = fault; nodes = replicate 16 noNode; count = 0; at = at } ⌝ }
+    {
+        NodesRead {
+            fault,
+            nodes: [Node::none(); 16],
+            count: 0,
+            at,
+        }
+    }
+}
+
 impl PlanFault {
     pub fn is_none(self) -> bool
         ensures { λ r. ⌜ r ≡ eqb (numberOf self) 0 ⌝ }
@@ -189,18 +215,13 @@ fn read_numbers(
     disorder: PlanFault,
 ) -> NumbersRead
     requires { ⌜ (limit ≤ 32) × (0 < numberOf miscount) × (0 < numberOf disorder) ⌝ }
-    ensures { λ r. ⌜ (seen (numberOf (r .fault)) (take (r .count) (r .numbers)) (r .at) ≡ section (numbers limit (numberOf miscount) (numberOf disorder)) (now (bytes .entry)) start) × (r .count ≤ limit) × (length (take (r .count) (r .numbers)) ≡ r .count) ⌝ }
+    ensures { λ r. ⌜ NumbersAre (numbers limit (numberOf miscount) (numberOf disorder)) (now (bytes .entry)) start r ⌝ }
 {
     let mut numbers = [0u64; 32];
     let counted = read_number(bytes, start, 2, 1, limit, miscount);
     let fault = counted.fault;
     if !fault.is_none() {
-        return NumbersRead {
-            fault,
-            numbers,
-            count: 0,
-            at: counted.at,
-        };
+        return NumbersRead::stopped(fault, counted.at);
     }
     let count = counted.value as usize;
     let mut at = counted.at;
@@ -210,12 +231,7 @@ fn read_numbers(
         let n = read_number(bytes, at, 2, least, 65535, disorder);
         let fault = n.fault;
         if !fault.is_none() {
-            return NumbersRead {
-                fault,
-                numbers,
-                count: 0,
-                at: n.at,
-            };
+            return NumbersRead::stopped(fault, n.at);
         }
         numbers[i] = n.value;
         least = n.value + 1;
@@ -228,6 +244,30 @@ fn read_numbers(
         count,
         at,
     }
+}
+
+fn read_loggers(bytes: &[u8], start: usize) -> NumbersRead
+    ensures { λ r. ⌜ NumbersAre loggers (now (bytes .entry)) start r ⌝ }
+{
+    read_numbers(
+        bytes,
+        start,
+        Plan::MAX_LOGGERS,
+        PlanFault::LoggerCount,
+        PlanFault::LoggerNumber,
+    )
+}
+
+fn read_kinds(bytes: &[u8], start: usize) -> NumbersRead
+    ensures { λ r. ⌜ NumbersAre kinds (now (bytes .entry)) start r ⌝ }
+{
+    read_numbers(
+        bytes,
+        start,
+        Plan::MAX_KINDS,
+        PlanFault::KindCount,
+        PlanFault::KindNumber,
+    )
 }
 
 // ---- nodes
@@ -303,12 +343,7 @@ fn read_nodes(bytes: &[u8], start: usize, kinds: usize) -> NodesRead
     let counted = read_number(bytes, start, 2, 1, Plan::MAX_NODES, PlanFault::NodeCount);
     let fault = counted.fault;
     if !fault.is_none() {
-        return NodesRead {
-            fault,
-            nodes,
-            count: 0,
-            at: counted.at,
-        };
+        return NodesRead::stopped(fault, counted.at);
     }
     let count = counted.value as usize;
     let mut at = counted.at;
@@ -317,12 +352,7 @@ fn read_nodes(bytes: &[u8], start: usize, kinds: usize) -> NodesRead
         let n = read_node(bytes, at, kinds, i);
         let fault = n.fault;
         if !fault.is_none() {
-            return NodesRead {
-                fault,
-                nodes,
-                count: 0,
-                at: n.at,
-            };
+            return NodesRead::stopped(fault, n.at);
         }
         let node = n.node;
         nodes[i] = node;
@@ -386,24 +416,12 @@ pub fn read_plan(bytes: &[u8]) -> PlanRead
     if !fault.is_none() {
         return turned_back(fault, clocks.at);
     }
-    let loggers = read_numbers(
-        bytes,
-        clocks.at,
-        Plan::MAX_LOGGERS,
-        PlanFault::LoggerCount,
-        PlanFault::LoggerNumber,
-    );
+    let loggers = read_loggers(bytes, clocks.at);
     let fault = loggers.fault;
     if !fault.is_none() {
         return turned_back(fault, loggers.at);
     }
-    let kinds = read_numbers(
-        bytes,
-        loggers.at,
-        Plan::MAX_KINDS,
-        PlanFault::KindCount,
-        PlanFault::KindNumber,
-    );
+    let kinds = read_kinds(bytes, loggers.at);
     let fault = kinds.fault;
     if !fault.is_none() {
         return turned_back(fault, kinds.at);

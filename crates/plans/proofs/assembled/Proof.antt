@@ -1,6 +1,4 @@
 -- `plans::assembled`: the first eight hold the loggers.
-use mathlib.Core.Path.{sym, ap, _∙_}
-use lib.ListN.{take}
 use lib.Seq.{take-take}
 use borrow.Author.Needs.{needs}
 use Rattle.plans.proofs.assembled.Statement.{statement}

@@ -1,5 +1,4 @@
 -- `plans::first_eight`: an array of 32 has eight to copy.
-use native.Mathlib.Omega.{arith}
 use Rattle.plans.proofs.Sections.{eight}
 use borrow.Author.Needs.{needs}
 use Rattle.plans.proofs.first_eight.Statement.{statement}

@@ -1,7 +1,7 @@
 -- `plans::read_nodes`: the count, and a loop. The invariant: the nodes that are left, read from here after those that are held,
 -- give the section.
 use mathlib.Core.Path.{_≡_, refl, sym, _∙_}
-use Prim.Native.Nat.{_+_, _-_, _≤_, _<_}
+use Prim.Native.Nat.{_-_, _≤_}
 use mathlib.Core.List.{[]}
 use native.Mathlib.Omega.{arith}
 use lib.ListN.{length, take, length-set}
@@ -32,11 +32,16 @@ read-number-requires c κs = search needs
 is-none-requires : tie.Need-is-none-requires Inv-loop μ-loop
 is-none-requires c κs = search needs
 
+stopped-requires : tie.Need-stopped-requires Inv-loop μ-loop
+stopped-requires c κs = search needs
+
 returns : tie.Need-returns Inv-loop μ-loop
 returns c =
-    let r = c .before .before .read-number in
-    let a = c .before .before .before .before .before .args in
-    count-stop (nodes (a .kinds)) (a .bytes .now) (a .start) _ _ _ (r .ensures .0) (sym (c .before .is-none .ensures) ∙ not-true _ (c .if1 .taken)) []
+    let t = c .before in
+    let r = t .before .before .read-number in
+    let a = t .before .before .before .before .before .args in
+    rw (c .stopped .ensures)
+    (count-stop (nodes (a .kinds)) (a .bytes .now) (a .start) _ _ _ (r .ensures .0) (sym (t .before .is-none .ensures) ∙ not-true _ (t .if1 .taken)) [])
 
 loop-holds : tie.Need-loop-holds Inv-loop μ-loop
 loop-holds c =
@@ -54,14 +59,19 @@ read-node-requires c κs = search needs
 is-none-requires-2 : tie.Need-is-none-requires-2 Inv-loop μ-loop
 is-none-requires-2 c κs = search needs
 
+stopped-requires-2 : tie.Need-stopped-requires-2 Inv-loop μ-loop
+stopped-requires-2 c κs = search needs
+
 returns-2 : tie.Need-returns-2 Inv-loop μ-loop
 returns-2 c =
-    let r = c .before .before .read-node in
-    let s = c .before .before .before .before in
+    let t = c .before in
+    let r = t .before .before .read-node in
+    let s = t .before .before .before .before in
     let a = s .before .before .before .before .before .before .args in
     let l = take (s .loop .i) (s .loop .nodes) in
     let e = r .ensures ∙ node-piece (a .bytes .now) (s .loop .at) 1 (a .kinds) (s .loop .i) l (length-take-le (s .loop .i) (s .loop .nodes) (omega arith)) in
-    turn-stop (nodes (a .kinds)) (a .bytes .now) _ (s .loop .i) (s .loop .nodes) _ _ (s .loop .inv .3) _ _ _ (search needs) e (sym (c .before .is-none2 .ensures) ∙ not-true _ (c .if2 .taken)) []
+    rw (c .stopped2 .ensures)
+    (turn-stop (nodes (a .kinds)) (a .bytes .now) _ (s .loop .i) (s .loop .nodes) _ _ (s .loop .inv .3) _ _ _ (search needs) e (sym (t .before .is-none2 .ensures) ∙ not-true _ (t .if2 .taken)) [])
 
 mul-nodes : tie.Need-mul-nodes Inv-loop μ-loop
 mul-nodes c = search needs
@@ -103,10 +113,12 @@ read-nodes-spec =
     none-requires
     read-number-requires
     is-none-requires
+    stopped-requires
     returns
     loop-holds
     read-node-requires
     is-none-requires-2
+    stopped-requires-2
     returns-2
     mul-nodes
     array-set-from-nodes

@@ -1,7 +1,7 @@
 -- `plans::read_numbers`: the count, and a loop. The invariant: the numbers that are left, read from here after those that are
 -- held, are what the loop began to read; and a number is above those held from `least` on.
 use mathlib.Core.Path.{_≡_, refl, sym, _∙_}
-use Prim.Native.Nat.{ℕ, _+_, _-_, _≤_, _<_}
+use Prim.Native.Nat.{ℕ, _-_, _≤_, _<_}
 use mathlib.Core.List.{[]}
 use native.Mathlib.Omega.{arith}
 use lib.ListN.{length, take, length-set}
@@ -32,11 +32,20 @@ read-number-requires c κs = (search needs, search needs, c .before .pre .1)
 is-none-requires : tie.Need-is-none-requires Inv-loop μ-loop
 is-none-requires c κs = search needs
 
+stopped-requires : tie.Need-stopped-requires Inv-loop μ-loop
+stopped-requires c κs = search needs
+
 returns : tie.Need-returns Inv-loop μ-loop
 returns c =
-    let r = c .before .before .read-number in
-    let a = c .before .before .before .before .args in
-    (count-stop (numbers (a .limit) (numberOf (a .miscount)) (numberOf (a .disorder))) (a .bytes .now) (a .start) _ _ _ (r .ensures .0) (sym (c .before .is-none .ensures) ∙ not-true _ (c .if1 .taken)) [], search needs, refl)
+    let t = c .before in
+    let r = t .before .before .read-number in
+    let a = t .before .before .before .before .args in
+    rw (c .stopped .ensures)
+    (record {
+      is = count-stop (numbers (a .limit) (numberOf (a .miscount)) (numberOf (a .disorder))) (a .bytes .now) (a .start) _ _ _ (r .ensures .0) (sym (t .before .is-none .ensures) ∙ not-true _ (t .if1 .taken)) [];
+      most = search needs;
+      holds = refl;
+    })
 
 loop-holds : tie.Need-loop-holds Inv-loop μ-loop
 loop-holds c = (search needs, refl, (λ v. sym (leb·zero v)), (λ m. refl))
@@ -47,19 +56,25 @@ read-number-requires-2 c κs = (search needs, search needs, c .before .before .b
 is-none-requires-2 : tie.Need-is-none-requires-2 Inv-loop μ-loop
 is-none-requires-2 c κs = search needs
 
+stopped-requires-2 : tie.Need-stopped-requires-2 Inv-loop μ-loop
+stopped-requires-2 c κs = search needs
+
 returns-2 : tie.Need-returns-2 Inv-loop μ-loop
 returns-2 c =
-    let r = c .before .before .read-number2 in
-    let s = c .before .before .before .before in
+    let t = c .before in
+    let r = t .before .before .read-number2 in
+    let s = t .before .before .before .before in
     let p = s .before .before .before in
     let a = p .before .before .args in
     let sec = numbers (a .limit) (numberOf (a .miscount)) (numberOf (a .disorder)) in
-    let e = r .ensures .0 ∙ rising-piece 1 (numberOf (a .disorder)) (a .bytes .now) (s .loop .at) (s .loop .least) (take (s .loop .i) (s .loop .numbers)) (λ j. omega (arith, p .before .shared-slice-known .given j)) (s .loop .inv .2) in (
-      turn-stop sec (a .bytes .now) _ (s .loop .i) (s .loop .numbers) _ _ (s .loop .inv .3 (numberOf (a .miscount))) _ _ _ (search needs) e (sym (c .before .is-none2 .ensures) ∙ not-true _ (c .if2 .taken)) []
-          ∙ count-go sec (a .bytes .now) (a .start) _ _ _ (p .read-number .ensures .0) (sym (s .before .before .is-none .ensures) ∙ not-false _ (s .before .if1 .left)),
-      search needs,
-      refl,
-    )
+    let e = r .ensures .0 ∙ rising-piece 1 (numberOf (a .disorder)) (a .bytes .now) (s .loop .at) (s .loop .least) (take (s .loop .i) (s .loop .numbers)) (λ j. omega (arith, p .before .shared-slice-known .given j)) (s .loop .inv .2) in
+    rw (c .stopped2 .ensures)
+    (record {
+      is = turn-stop sec (a .bytes .now) _ (s .loop .i) (s .loop .numbers) _ _ (s .loop .inv .3 (numberOf (a .miscount))) _ _ _ (search needs) e (sym (t .before .is-none2 .ensures) ∙ not-true _ (t .if2 .taken)) []
+          ∙ count-go sec (a .bytes .now) (a .start) _ _ _ (p .read-number .ensures .0) (sym (s .before .before .is-none .ensures) ∙ not-false _ (s .before .if1 .left));
+      most = search needs;
+      holds = refl;
+    })
 
 mul-numbers : tie.Need-mul-numbers Inv-loop μ-loop
 mul-numbers c = search needs
@@ -95,12 +110,13 @@ returns-3 c =
     let s = c .before in
     let p = s .before .before .before in
     let a = p .before .before .args in
-    let sec = numbers (a .limit) (numberOf (a .miscount)) (numberOf (a .disorder)) in (
-      turn-end sec (a .bytes .now) (p .read-number .result .value) (s .loop .i) (s .loop .numbers) _ _ (s .loop .inv .3 (numberOf (a .miscount))) (omega arith)
-          ∙ count-go sec (a .bytes .now) (a .start) _ _ _ (p .read-number .ensures .0) (sym (s .before .before .is-none .ensures) ∙ not-false _ (s .before .if1 .left)),
-      search needs,
-      length-take-le (p .read-number .result .value) (s .loop .numbers) (omega arith),
-    )
+    let sec = numbers (a .limit) (numberOf (a .miscount)) (numberOf (a .disorder)) in
+    record {
+      is = turn-end sec (a .bytes .now) (p .read-number .result .value) (s .loop .i) (s .loop .numbers) _ _ (s .loop .inv .3 (numberOf (a .miscount))) (omega arith)
+          ∙ count-go sec (a .bytes .now) (a .start) _ _ _ (p .read-number .ensures .0) (sym (s .before .before .is-none .ensures) ∙ not-false _ (s .before .if1 .left));
+      most = search needs;
+      holds = length-take-le (p .read-number .result .value) (s .loop .numbers) (omega arith);
+    }
 
 pub read-numbers-spec : {M : Type 1} → statement M
 read-numbers-spec =
@@ -110,10 +126,12 @@ read-numbers-spec =
     μ-loop
     read-number-requires
     is-none-requires
+    stopped-requires
     returns
     loop-holds
     read-number-requires-2
     is-none-requires-2
+    stopped-requires-2
     returns-2
     mul-numbers
     array-write-numbers

@@ -27,16 +27,16 @@ clocks-got c = seen-got _ _ _ _ (c .before .before .read-clocks .ensures) (sym (
 
 loggers-got : (c : tie.Else2)
     → section loggers (bytes₂ c) (c .before .before .before .before .before .read-clocks .result .at)
-    ≡ got (take (c .before .before .read-numbers .result .count) (c .before .before .read-numbers .result .numbers)) (c .before .before .read-numbers .result .at)
-loggers-got c = seen-got _ _ _ _ (c .before .before .read-numbers .ensures .0) (sym (c .before .is-none2 .ensures) ∙ not-false _ (c .if2 .left))
+    ≡ got (take (c .before .before .read-loggers .result .count) (c .before .before .read-loggers .result .numbers)) (c .before .before .read-loggers .result .at)
+loggers-got c = seen-got _ _ _ _ (c .before .before .read-loggers .ensures .is) (sym (c .before .is-none2 .ensures) ∙ not-false _ (c .if2 .left))
 
 kinds-got : (c : tie.Else3)
-    → section kinds (bytes₃ c) (c .before .before .before .before .before .read-numbers .result .at)
-    ≡ got (take (c .before .before .read-numbers2 .result .count) (c .before .before .read-numbers2 .result .numbers)) (c .before .before .read-numbers2 .result .at)
-kinds-got c = seen-got _ _ _ _ (c .before .before .read-numbers2 .ensures .0) (sym (c .before .is-none3 .ensures) ∙ not-false _ (c .if3 .left))
+    → section kinds (bytes₃ c) (c .before .before .before .before .before .read-loggers .result .at)
+    ≡ got (take (c .before .before .read-kinds .result .count) (c .before .before .read-kinds .result .numbers)) (c .before .before .read-kinds .result .at)
+kinds-got c = seen-got _ _ _ _ (c .before .before .read-kinds .ensures .is) (sym (c .before .is-none3 .ensures) ∙ not-false _ (c .if3 .left))
 
 nodes-got : (c : tie.Else4)
-    → section (nodes (c .before .before .before .before .before .read-numbers2 .result .count)) (bytes₃ (c .before .before .before)) (c .before .before .before .before .before .read-numbers2 .result .at)
+    → section (nodes (c .before .before .before .before .before .read-kinds .result .count)) (bytes₃ (c .before .before .before)) (c .before .before .before .before .before .read-kinds .result .at)
     ≡ got (take (c .before .before .read-nodes .result .count) (c .before .before .read-nodes .result .nodes)) (c .before .before .read-nodes .result .at)
 nodes-got c = seen-got _ _ _ _ (c .before .before .read-nodes .ensures) (sym (c .before .is-none4 .ensures) ∙ not-false _ (c .if4 .left))
 
@@ -55,8 +55,8 @@ returns c =
     c .turned-back .ensures
     ∙ bad-clocks (t .before .before .before .before .args .bytes .now) _ _ (seen-bad _ _ _ _ (t .before .before .read-clocks .ensures) (sym (t .before .is-none .ensures) ∙ not-true _ (t .if1 .taken)))
 
-read-numbers-requires : tie.Need-read-numbers-requires
-read-numbers-requires c κs = search needs
+read-loggers-requires : tie.Need-read-loggers-requires
+read-loggers-requires c κs = search needs
 
 is-none-requires-2 : tie.Need-is-none-requires-2
 is-none-requires-2 c κs = search needs
@@ -69,10 +69,10 @@ returns-2 c =
     let t = c .before in
     let e₁ = t .before .before .before in
     c .turned-back2 .ensures
-    ∙ bad-loggers (bytes₁ e₁) _ _ (clocks-got e₁) _ _ (seen-bad _ _ _ _ (t .before .before .read-numbers .ensures .0) (sym (t .before .is-none2 .ensures) ∙ not-true _ (t .if2 .taken)))
+    ∙ bad-loggers (bytes₁ e₁) _ _ (clocks-got e₁) _ _ (seen-bad _ _ _ _ (t .before .before .read-loggers .ensures .is) (sym (t .before .is-none2 .ensures) ∙ not-true _ (t .if2 .taken)))
 
-read-numbers-requires-2 : tie.Need-read-numbers-requires-2
-read-numbers-requires-2 c κs = search needs
+read-kinds-requires : tie.Need-read-kinds-requires
+read-kinds-requires c κs = search needs
 
 is-none-requires-3 : tie.Need-is-none-requires-3
 is-none-requires-3 c κs = search needs
@@ -86,7 +86,7 @@ returns-3 c =
     let e₂ = t .before .before .before in
     let e₁ = e₂ .before .before .before in
     c .turned-back3 .ensures
-    ∙ bad-kinds (bytes₁ e₁) _ _ (clocks-got e₁) _ _ (loggers-got e₂) _ _ (seen-bad _ _ _ _ (t .before .before .read-numbers2 .ensures .0) (sym (t .before .is-none3 .ensures) ∙ not-true _ (t .if3 .taken)))
+    ∙ bad-kinds (bytes₁ e₁) _ _ (clocks-got e₁) _ _ (loggers-got e₂) _ _ (seen-bad _ _ _ _ (t .before .before .read-kinds .ensures .is) (sym (t .before .is-none3 .ensures) ∙ not-true _ (t .if3 .taken)))
 
 read-nodes-requires : tie.Need-read-nodes-requires
 read-nodes-requires c κs = search needs
@@ -104,7 +104,7 @@ returns-4 c =
     let e₂ = e₃ .before .before .before in
     let e₁ = e₂ .before .before .before in
     c .turned-back4 .ensures
-    ∙ bad-nodes (bytes₁ e₁) _ _ (clocks-got e₁) _ _ (loggers-got e₂) _ _ (kinds-got e₃) _ (e₃ .before .before .read-numbers2 .ensures .2) _ _
+    ∙ bad-nodes (bytes₁ e₁) _ _ (clocks-got e₁) _ _ (loggers-got e₂) _ _ (kinds-got e₃) _ (e₃ .before .before .read-kinds .ensures .holds) _ _
     (seen-bad _ _ _ _ (t .before .before .read-nodes .ensures) (sym (t .before .is-none4 .ensures) ∙ not-true _ (t .if4 .taken)))
 
 turned-back-requires-5 : tie.Need-turned-back-requires-5
@@ -117,7 +117,7 @@ returns-5 c =
     let e₂ = e₃ .before .before .before in
     let e₁ = e₂ .before .before .before in
     c .turned-back5 .ensures
-    ∙ bytes-remain (bytes₁ e₁) _ _ (clocks-got e₁) _ _ (loggers-got e₂) _ _ (kinds-got e₃) _ (e₃ .before .before .read-numbers2 .ensures .2) _ _ (nodes-got e₄) (c .before .if5 .taken)
+    ∙ bytes-remain (bytes₁ e₁) _ _ (clocks-got e₁) _ _ (loggers-got e₂) _ _ (kinds-got e₃) _ (e₃ .before .before .read-kinds .ensures .holds) _ _ (nodes-got e₄) (c .before .if5 .taken)
 
 assembled-requires : tie.Need-assembled-requires
 assembled-requires c κs = search needs
@@ -129,7 +129,7 @@ returns-6 c =
     let e₂ = e₃ .before .before .before in
     let e₁ = e₂ .before .before .before in
     ap accepted (c .assembled .ensures)
-    ∙ whole-plan (bytes₁ e₁) _ _ (clocks-got e₁) _ _ (loggers-got e₂) _ _ (kinds-got e₃) _ (e₃ .before .before .read-numbers2 .ensures .2) _ _ (nodes-got e₄) (c .before .if5 .left)
+    ∙ whole-plan (bytes₁ e₁) _ _ (clocks-got e₁) _ _ (loggers-got e₂) _ _ (kinds-got e₃) _ (e₃ .before .before .read-kinds .ensures .holds) _ _ (nodes-got e₄) (c .before .if5 .left)
 
 pub read-plan-spec : {M : Type 1} → statement M
 read-plan-spec =
@@ -139,11 +139,11 @@ read-plan-spec =
     is-none-requires
     turned-back-requires
     returns
-    read-numbers-requires
+    read-loggers-requires
     is-none-requires-2
     turned-back-requires-2
     returns-2
-    read-numbers-requires-2
+    read-kinds-requires
     is-none-requires-3
     turned-back-requires-3
     returns-3
