@@ -25,7 +25,7 @@ number-laws w =
       back = λ a b y at h e. rw (e, take-at (bigEndian w a) y w (length-bigEndian w a)) (value-bigEndian w a h);
       forth = λ b at h r. rw (length-part b at w r) at (bigEndian-value (take w (drop at b)) (bytes-take w (drop at b) (bytes-drop at b h)));
       fit = λ b at h r. rw (length-part b at w r) at (value-bound (take w (drop at b)) (bytes-take w (drop at b) (bytes-drop at b h)));
-      small = bytes-bigEndian w;
+      small = λ v h. bytes-bigEndian w v;
     }
 
 module _ {A B : Type 0} (f : Form A) (g : Form B) (F : Laws f) (G : Laws g) where
