@@ -1,0 +1,4 @@
+pub mod Writing
+pub mod Sizes
+pub mod Stamps
+pub mod Events

@@ -1,0 +1,4 @@
+pub mod Findings
+pub mod Views
+pub mod Writing
+pub mod Steps
