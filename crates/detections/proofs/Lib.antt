@@ -2,3 +2,4 @@ pub mod Writing
 pub mod Sizes
 pub mod Stamps
 pub mod Events
+pub mod Findings
