@@ -38,7 +38,7 @@ count-requires : tie.Need-count-requires Inv-loop μ-loop
 count-requires c κs = search needs
 
 put-u16-requires : tie.Need-put-u16-requires Inv-loop μ-loop
-put-u16-requires c κs = 
+put-u16-requires c κs =
     let n = c .before .count in
     let s = c .before .before .before in
     omega (arith, length-two (n .result), writes-room (whole s) (bigEndian 2 (n .result)) _ (events-section (s .args .s) (n .result) (n .ensures)))
@@ -47,14 +47,14 @@ next-from-requires : tie.Need-next-from-requires Inv-loop μ-loop
 next-from-requires c κs = search needs
 
 loop-holds : tie.Need-loop-holds Inv-loop μ-loop
-loop-holds c = 
+loop-holds c =
     let s = c .before .before .before .before .before .before .before .args .s in
     let e = c .next-from .ensures in
     let b = events-start s _ e in
     (omega (arith, e, next-most s 0), b .0, rw (b .1) (writes-start _ _ _ (begun (c .before .before .before) .room)))
 
 put-u16-requires-2 : tie.Need-put-u16-requires-2 Inv-loop μ-loop
-put-u16-requires-2 c κs = 
+put-u16-requires-2 c κs =
     let a = c .before .before in
     let s = a .before .before .before .before .before .before .before .before .args .s in
     let e = a .loop .e in
@@ -68,13 +68,13 @@ next-from-requires-2 : tie.Need-next-from-requires-2 Inv-loop μ-loop
 next-from-requires-2 c κs = search needs
 
 loop-less : tie.Need-loop-less Inv-loop μ-loop
-loop-less c = 
+loop-less c =
     let a = c .before .before .before .before .before .before in
     let s = a .before .before .before .before .before .before .before .before .args .s in
     omega (arith, events-turn s (a .loop .e) _ (a .loop .inv .1) (search needs) (c .next-from2 .ensures) .2)
 
 loop-again : tie.Need-loop-again Inv-loop μ-loop
-loop-again c = 
+loop-again c =
     let w = c .before .before .before .put-u162 in
     let a = c .before .before .before .before .before .before in
     let s = a .before .before .before .before .before .before .before .before .args .s in
@@ -85,7 +85,7 @@ same-length : tie.Need-same-length Inv-loop μ-loop
 same-length c = search needs
 
 returns : tie.Need-returns Inv-loop μ-loop
-returns c = 
+returns c =
     let a = c .before in
     let s = a .before .before .before .before .before .before .before .before .args .s in
     begun (a .before .before .before .before) .onward _ _ (writes-end (a .loop .inv .2) (events-end s (a .loop .e) (search needs)))

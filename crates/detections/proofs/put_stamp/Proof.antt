@@ -11,14 +11,14 @@ use Rattle.detections.proofs.put_stamp.Statement.{statement}
 use Rattle.detections.proofs.put_stamp.Tie as tie
 
 put-u16-requires : tie.Need-put-u16-requires
-put-u16-requires c κs = 
+put-u16-requires c κs =
     let t = c .before in
     let a = t .before .before .args in
     omega (arith, length-stamp (a .present) (a .logger) (a .tick) (t .if1 .taken))
 
 put-u64-requires : tie.Need-put-u64-requires
 unfolding bigEndian
-put-u64-requires c κs = 
+put-u64-requires c κs =
     let t = c .before .before .before .before .before in
     let a = t .before .before .args in
     omega (arith, length-stamp (a .present) (a .logger) (a .tick) (t .if1 .taken))
@@ -27,7 +27,7 @@ same-length : tie.Need-same-length
 same-length c = search needs
 
 returns : tie.Need-returns
-returns c = 
+returns c =
     let w2 = c .before .before in
     let w1 = w2 .before .before .before .before in
     let t = w1 .before .before in

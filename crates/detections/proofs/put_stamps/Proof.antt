@@ -43,7 +43,7 @@ stamp-count-requires : tie.Need-stamp-count-requires Inv-loop μ-loop
 stamp-count-requires c κs = search needs
 
 put-u16-requires : tie.Need-put-u16-requires Inv-loop μ-loop
-put-u16-requires c κs = 
+put-u16-requires c κs =
     let n = c .before .stamp-count in
     let s = c .before .before .before .before in
     omega (arith, length-two (n .result), writes-room (whole s) (bigEndian 2 (n .result)) _ (stamps-section (s .args .t4) (s .args .t3) (n .result) (n .ensures .0)))
@@ -67,7 +67,7 @@ array-read-put-stamp-2 : tie.Need-array-read-put-stamp-2 Inv-loop μ-loop
 array-read-put-stamp-2 c = search needs
 
 put-stamp-requires : tie.Need-put-stamp-requires Inv-loop μ-loop
-put-stamp-requires c κs = 
+put-stamp-requires c κs =
     let a = c .before .before .before in
     let s = a .before .before .before .before .before .before .before .before .args in
     let k = a .loop .k in
@@ -81,7 +81,7 @@ loop-less : tie.Need-loop-less Inv-loop μ-loop
 loop-less c = search needs
 
 loop-again : tie.Need-loop-again Inv-loop μ-loop
-loop-again c = 
+loop-again c =
     let w = c .before .before .put-stamp in
     let a = c .before .before .before .before .before .before in
     let s = a .before .before .before .before .before .before .before .before .args in
@@ -91,7 +91,7 @@ same-length : tie.Need-same-length Inv-loop μ-loop
 same-length c = search needs
 
 returns : tie.Need-returns Inv-loop μ-loop
-returns c = 
+returns c =
     let a = c .before in
     let s = a .before .before .before .before .before .before .before .before .args in
     begun (a .before .before .before) .onward _ _ (writes-end (a .loop .inv .1) (stamps-end (s .t4) (s .t3) (a .loop .k) (search needs)))

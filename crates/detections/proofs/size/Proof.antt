@@ -25,7 +25,7 @@ add-result-2 : tie.Need-add-result-2
 add-result-2 c = omega (arith, c .count .ensures, size-most (c .before .before .before .args .d .events))
 
 returns : tie.Need-returns
-returns c = 
+returns c =
     let d = c .before .before .before .args .d in
     λ loggers. size-is loggers (d .node) (d .latest) (d .events) _ _ (c .before .stamp-count .ensures .0) (c .count .ensures)
 

@@ -33,12 +33,12 @@ loop-less : tie.Need-loop-less Inv-loop μ-loop
 loop-less c = search needs
 
 loop-again : tie.Need-loop-again Inv-loop μ-loop
-loop-again c = 
+loop-again c =
     let a = c .before .before in
     (search needs, search needs, omega (arith, count-turn (a .before .args .t1) (a .loop .k) (search needs), c .one-if .ensures .0, a .loop .inv .2))
 
 returns : tie.Need-returns Inv-loop μ-loop
-returns c = 
+returns c =
     let a = c .before in
     (omega (arith, count-end (a .before .args .t1) (a .loop .k) (search needs), a .loop .inv .2), search needs)
 
