@@ -3,3 +3,4 @@ pub mod Sizes
 pub mod Stamps
 pub mod Events
 pub mod Findings
+pub mod Telling

@@ -1,6 +1,6 @@
 -- Document 01, "Files": a finding, as written.
 use Prim.Native.Nat.{ℕ, _^_, _<_}
-use mathlib.Core.List.{List, _++_}
+use mathlib.Core.List.{List, [], _∷_, _++_}
 use lib.ListN.{length}
 use Rattle.sequences.specs.Members.{_∈_}
 use Rattle.forms.specs.Bytes.{bigEndian}
@@ -29,7 +29,12 @@ stamp = via toStamp fromStamp (pair (number 2) (number 8))
 unfoldable pub findingBytes : Finding → List ℕ
 findingBytes f = bigEndian 2 (f .node) ++ sectionBytes stamp (f .stamps) ++ sectionBytes (number 2) (f .events)
 
--- every number fits its bytes
+-- findings, one after the other
+unfoldable pub findingsBytes : List Finding → List ℕ
+findingsBytes [] = []
+findingsBytes (f ∷ fs) = findingBytes f ++ findingsBytes fs
+
+-- ---- every number fits its bytes
 pub record StampFits (s : Stamp) : Type 0 where
   pub logger : s .logger < 65536
   pub tick : s .tick .0 < 2 ^ 64
