@@ -4,3 +4,4 @@ pub mod Stamps
 pub mod Events
 pub mod Findings
 pub mod Telling
+pub mod Reading

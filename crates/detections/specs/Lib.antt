@@ -2,3 +2,4 @@ pub mod Findings
 pub mod Views
 pub mod Writing
 pub mod Steps
+pub mod Reader

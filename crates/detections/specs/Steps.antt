@@ -7,6 +7,7 @@ use Rattle.sequences.specs.Choice.{pick}
 use Rattle.sequences.specs.Select.{filter}
 use Rattle.timestamps.specs.declared.LocalTick.{LocalTick}
 use Rattle.timestamps.specs.Composite.{loggerPlaces}
+use Rattle.detections.specs.declared.Stamp.{Stamp}
 use Rattle.detections.specs.Findings.{stamp}
 
 -- how many of the eight places have a stamp
@@ -19,3 +20,11 @@ oneIf p = pick p 1 0
 -- a stamp, if there is one
 unfoldable pub stampBytes : Bool → ℕ → LocalTick → List ℕ
 stampBytes present logger tick = pick present (stamp .bytes (record { logger = logger; tick = tick })) []
+
+-- the reader's fault
+abbrev pub faultOf : Bool → ℕ
+faultOf whole = pick whole 0 1
+
+-- stands for a stamp where there is none
+abbrev pub noStamp : Stamp
+noStamp = record { logger = 0; tick = record { 0 = 0 } }
