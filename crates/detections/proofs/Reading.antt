@@ -115,9 +115,12 @@ least-more l least n h k v =
 event-piece : (b l : List ℕ) (at least : ℕ) → Least l least → piece (number 2) 1 (outside least 127 1) b at ≡ piece (number 2) 1 (eventSection .entry-fault l) b at
 event-piece b l at least h =
     piece-same (number 2) 1 (outside least 127 1) (eventSection .entry-fault l) b at
-    (λ r. rw (h (valueAt 2 b at), same-test (leb (valueAt 2 b at) 127) (ltb (valueAt 2 b at) 128)
-    (λ e. lt-ltb (valueAt 2 b at) 128 (omega (arith, leb-true (valueAt 2 b at) 127 e)))
-    (λ e. le-leb (valueAt 2 b at) 127 (omega (arith, ltb-true (valueAt 2 b at) 128 e)))))
+    (λ r. rw (
+      h (valueAt 2 b at),
+      same-test (leb (valueAt 2 b at) 127) (ltb (valueAt 2 b at) 128)
+          (λ e. lt-ltb (valueAt 2 b at) 128 (omega (arith, leb-true (valueAt 2 b at) 127 e)))
+          (λ e. le-leb (valueAt 2 b at) 127 (omega (arith, ltb-true (valueAt 2 b at) 128 e))),
+    ))
 
 -- what is known once it was read
 pub record NextEvent (b : List ℕ) (s : EventSet) (at v next : ℕ) : Type 0 where
@@ -175,15 +178,16 @@ module _ (b : List ℕ) (at : ℕ) where
     node-got : piece (number 2) 1 (λ node. 0) b at ≡ got node (at + 2)
     node-got = piece-is (number 2) 1 (λ node. 0) b at node h (sym e) refl
 
-    pub bad-stamps : (k p : ℕ) → section stampSection b (at + 2) ≡ bad k p → notFound p ≡ readFinding b at
-    unfolding readFinding findingAt
-    bad-stamps k p s = rw (node-got, s)
-
-    module _ (ss : List Stamp) (at₂ : ℕ) (s : section stampSection b (at + 2) ≡ got ss at₂) where
-      pub bad-events : (k p : ℕ) → section eventSection b at₂ ≡ bad k p → notFound p ≡ readFinding b at
+    module _ (sw : Bool) (ss : List Stamp) (at₂ : ℕ) (s : seen (faultOf sw) ss at₂ ≡ section stampSection b (at + 2)) where
+      pub bad-stamps : sw ≡ false → notFound at₂ ≡ readFinding b at
       unfolding readFinding findingAt
-      bad-events k p t = rw (node-got, s, t)
+      bad-stamps z = rw (node-got, seen-bad (faultOf sw) ss at₂ _ s (rw z))
 
-      pub whole-finding : (es : List ℕ) (at₃ : ℕ) → section eventSection b at₂ ≡ got es at₃ → found (record { node = node; stamps = ss; events = es }) at₃ ≡ readFinding b at
-      unfolding readFinding findingAt
-      whole-finding es at₃ t = rw (node-got, s, t)
+      module _ (y : sw ≡ true) (ew : Bool) (es : List ℕ) (at₃ : ℕ) (t : seen (faultOf ew) es at₃ ≡ section eventSection b at₂) where
+        pub bad-events : ew ≡ false → notFound at₃ ≡ readFinding b at
+        unfolding readFinding findingAt
+        bad-events z = rw (node-got, seen-got (faultOf sw) ss at₂ _ s (rw y), seen-bad (faultOf ew) es at₃ _ t (rw z))
+
+        pub whole-finding : ew ≡ true → found (record { node = node; stamps = ss; events = es }) at₃ ≡ readFinding b at
+        unfolding readFinding findingAt
+        whole-finding z = rw (node-got, seen-got (faultOf sw) ss at₂ _ s (rw y), seen-got (faultOf ew) es at₃ _ t (rw z))

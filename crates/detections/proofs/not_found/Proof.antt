@@ -15,7 +15,7 @@ none-requires : tie.Need-none-requires
 none-requires c κs = search needs
 
 returns : tie.Need-returns
-returns c = 
+returns c =
     let e = ap elements (c .none .ensures) ∙ elements-none in
     λ i. record { whole = false; next = c .before .before .args .at; finding = record { node = 0; stamps = []; events = e i } }
 

@@ -25,13 +25,13 @@ read-u16-requires : tie.Need-read-u16-requires Inv-loop μ-loop
 read-u16-requires c κs = search needs
 
 returns : tie.Need-returns Inv-loop μ-loop
-returns c = 
+returns c =
     let r = c .before .before .read-u16 in
     let a = c .before .before .before .before .before .args in
     count-broken eventSection (a .bytes .now) (a .start) (r .result .whole) (r .result .value) (r .result .next) (r .ensures .0) (not-true _ (c .if1 .taken)) _
 
 loop-holds : tie.Need-loop-holds Inv-loop μ-loop
-loop-holds c = 
+loop-holds c =
     let e = events-none _ (c .before .before .before .none .ensures) in
     (search needs, e .1, rw (e .0))
 
@@ -42,7 +42,7 @@ read-u16-requires-2 : tie.Need-read-u16-requires-2 Inv-loop μ-loop
 read-u16-requires-2 c κs = search needs
 
 returns-2 : tie.Need-returns-2 Inv-loop μ-loop
-returns-2 c = 
+returns-2 c =
     let q = c .before .before .read-u162 in
     let s = c .before .before .before .before in
     let r = s .before .before .before .read-u16 in
@@ -64,7 +64,7 @@ loop-less : tie.Need-loop-less Inv-loop μ-loop
 loop-less c = search needs
 
 loop-again : tie.Need-loop-again Inv-loop μ-loop
-loop-again c = 
+loop-again c =
     let q = c .before .before .before .before .read-u162 in
     let s = c .before .before .before .before .before .before in
     let r = s .before .before .before .read-u16 in
@@ -75,7 +75,7 @@ loop-again c =
     (search needs, g .0, g .1)
 
 returns-3 : tie.Need-returns-3 Inv-loop μ-loop
-returns-3 c = 
+returns-3 c =
     let s = c .before in
     let r = s .before .before .before .read-u16 in
     let a = s .before .before .before .before .before .before .args in

@@ -27,7 +27,7 @@ read-u16-requires : tie.Need-read-u16-requires Inv-loop μ-loop
 read-u16-requires c κs = search needs
 
 returns : tie.Need-returns Inv-loop μ-loop
-returns c = 
+returns c =
     let r = c .before .before .read-u16 in
     let a = c .before .before .before .before .before .args in
     count-broken stampSection (a .bytes .now) (a .start) (r .result .whole) (r .result .value) (r .result .next) (r .ensures .0) (not-true _ (c .if1 .taken)) []
@@ -39,7 +39,7 @@ left-requires : tie.Need-left-requires Inv-loop μ-loop
 left-requires c κs = search needs
 
 returns-2 : tie.Need-returns-2 Inv-loop μ-loop
-returns-2 c = 
+returns-2 c =
     let s = c .before .before .before in
     let r = s .before .before .before .read-u16 in
     let a = s .before .before .before .before .before .before .args in
@@ -66,7 +66,7 @@ loop-less : tie.Need-loop-less Inv-loop μ-loop
 loop-less c = search needs
 
 loop-again : tie.Need-loop-again Inv-loop μ-loop
-loop-again c = 
+loop-again c =
     let s = c .before .before .before .before in
     let a = s .before .before .before .before .before .before .args in
     let b = a .bytes .now in
@@ -79,7 +79,7 @@ loop-again c =
     )
 
 returns-3 : tie.Need-returns-3 Inv-loop μ-loop
-returns-3 c = 
+returns-3 c =
     let s = c .before in
     let r = s .before .before .before .read-u16 in
     let a = s .before .before .before .before .before .before .args in

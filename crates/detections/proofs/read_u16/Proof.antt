@@ -21,13 +21,13 @@ enum-known-value : tie.Need-enum-known-value
 enum-known-value c = search needs
 
 add-t8 : tie.Need-add-t8
-add-t8 c = 
+add-t8 c =
     let r = c .before .before .before .read-number in
     let a = c .before .before .before .before .before .args in
     omega (arith, number-value 2 (a .low) (a .high) (a .bytes .now) (a .at) _ (sym (r .ensures) ∙ c .before .value .given .1) .0)
 
 returns : tie.Need-returns
-returns c = 
+returns c =
     let r = c .before .before .read-number in
     let a = c .before .before .before .before .args in (
       bad-seen 1 0 (a .at) refl ∙ ap (readOf 1 1 2 (a .at)) (sym (c .enum-told .given .1) ∙ r .ensures) ∙ number-piece 2 (a .low) (a .high) (a .bytes .now) (a .at) 1 1 (search needs),
@@ -35,7 +35,7 @@ returns c =
     )
 
 returns-2 : tie.Need-returns-2
-returns-2 c = 
+returns-2 c =
     let r = c .before .before .read-number in
     let a = c .before .before .before .before .args in (
       bad-seen 1 0 (a .at) refl ∙ ap (readOf 1 1 2 (a .at)) (sym (c .enum-told2 .given .1) ∙ r .ensures) ∙ number-piece 2 (a .low) (a .high) (a .bytes .now) (a .at) 1 1 (search needs),
@@ -43,7 +43,7 @@ returns-2 c =
     )
 
 returns-3 : tie.Need-returns-3
-returns-3 c = 
+returns-3 c =
     let r = c .before .before .before .read-number in
     let a = c .before .before .before .before .before .args in
     let v = c .before .value .given in (

@@ -14,7 +14,7 @@ number-at-requires-2 : tie.Need-number-at-requires-2
 number-at-requires-2 c κs = search needs
 
 returns : tie.Need-returns
-returns c = 
+returns c =
     let a = c .before .before .before .args in
     stamp-value (a .bytes .now) (a .at) _ _ (c .before .number-at .ensures) (c .number-at2 .ensures)
 
