@@ -5,3 +5,4 @@ pub mod Events
 pub mod Findings
 pub mod Telling
 pub mod Reading
+pub mod Theorems

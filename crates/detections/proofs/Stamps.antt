@@ -10,8 +10,9 @@ use Rattle.sequences.specs.Choice.{pick}
 use Rattle.sequences.specs.Range.{range}
 use Rattle.sequences.specs.Select.{filter}
 use Rattle.sequences.proofs.Booleans.{either-way}
-use Rattle.sequences.proofs.Range.{range-turn, range-end}
+use Rattle.sequences.proofs.Range.{range-turn, range-end, length-range}
 use Rattle.sequences.proofs.Select.{filter-nil, filter-yes, filter-no}
+use Rattle.event_sets.proofs.Lists.{filter-length}
 use Rattle.timestamps.specs.declared.CompositeTimestamp.{CompositeTimestamp}
 use Rattle.timestamps.specs.Composite.{tickZero, stampAt, presentAt, members}
 use Rattle.forms.specs.Bytes.{bigEndian}
@@ -47,6 +48,11 @@ module _ (present : List Bool) where
 pub count-members : (c : CompositeTimestamp) → presentCount (c .present) ≡ length (members c)
 unfolding presentCount members
 count-members c = sym (length-map (filter (presentAt c) (range 0 8)) (stampAt c))
+
+-- at most one for each place
+pub members-most : (c : CompositeTimestamp) → length (members c) ≤ 8
+unfolding members
+members-most c = omega (arith, length-map (filter (presentAt c) (range 0 8)) (stampAt c), filter-length (presentAt c) (range 0 8), length-range 0 8)
 
 -- ---- their bytes
 module _ (loggers : List ℕ) (c : CompositeTimestamp) where
