@@ -6,3 +6,4 @@ pub mod Findings
 pub mod Telling
 pub mod Reading
 pub mod Theorems
+pub mod Examples
