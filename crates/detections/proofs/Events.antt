@@ -1,20 +1,16 @@
 -- The loop over a set's elements: the bytes of those that are left from a number on.
-use mathlib.Core.Path.{_≡_, refl, sym, ap, _∙_}
-use mathlib.Core.List.{List, [], _∷_, _++_}
+use mathlib.Core.Path.{_≡_, ap}
+use mathlib.Core.List.{List, [], _++_}
 use Prim.Native.Nat.{ℕ, _+_, _≤_, _<_}
 use Rattle.event_sets.specs.declared.EventSet.{EventSet}
-use Rattle.event_sets.specs.Sets.{elements, sizeOf, elementsFrom, nextFrom}
+use Rattle.event_sets.specs.Sets.{elements, elementsFrom, nextFrom}
 use Rattle.event_sets.proofs.Walks.{walk-start, walk-turn, from-end}
 use Rattle.forms.specs.Bytes.{bigEndian}
-use Rattle.forms.specs.Forms.{number, each, sectionBytes}
+use Rattle.forms.specs.Forms.{number, each}
 
 module _ (s : EventSet) where
   unfoldable pub eventsFrom : ℕ → List ℕ
   eventsFrom e = each (number 2) (elementsFrom s e)
-
-  pub events-section : (n : ℕ) → n ≡ sizeOf s → sectionBytes (number 2) (elements s) ≡ bigEndian 2 n ++ each (number 2) (elements s)
-  unfolding sectionBytes sizeOf
-  events-section n e = rw e
 
   pub events-start : (e : ℕ) → e ≡ nextFrom s 0 → (nextFrom s e ≡ e) × (eventsFrom e ≡ each (number 2) (elements s))
   unfolding eventsFrom

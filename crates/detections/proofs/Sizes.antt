@@ -1,6 +1,6 @@
 -- A finding's bytes: their parts and how many they are.
-use mathlib.Core.Path.{_≡_, refl, sym, ap, _∙_}
-use mathlib.Core.List.{List, [], _∷_, _++_}
+use mathlib.Core.Path.{_≡_, refl, _∙_}
+use mathlib.Core.List.{List, [], _++_}
 use mathlib.Core.Bool.{Bool, true, false}
 use Prim.Native.Nat.{ℕ, _+_, _*_, _/_, _%_, _^_, _≤_}
 use native.Mathlib.Nat.{div-div-eq-div-mul, div-one}
@@ -8,7 +8,7 @@ use native.Mathlib.Omega.{arith}
 use lib.ListN.{length, set, length-append}
 use Rattle.timestamps.specs.declared.LocalTick.{LocalTick}
 use Rattle.forms.specs.Bytes.{bigEndian}
-use Rattle.forms.specs.Forms.{number, pair, via, sectionBytes}
+use Rattle.forms.specs.Forms.{number, pair, sectionBytes}
 use Rattle.forms.proofs.Numbers.{length-bigEndian, bigEndian-parts}
 use Rattle.forms.proofs.Forms.{Laws, number-laws, pair-laws, via-laws}
 use Rattle.forms.proofs.Prefixes.{length-section}

@@ -1,12 +1,11 @@
 -- The loops over the eight logger places: what is left from place k on.
-use mathlib.Core.Path.{_≡_, refl, sym, ap, _∙_}
-use mathlib.Core.Bool.{Bool, true, false}
-use mathlib.Core.List.{List, [], _∷_, _++_, map}
+use mathlib.Core.Path.{_≡_, refl, sym}
+use mathlib.Core.Bool.{Bool, false}
+use mathlib.Core.List.{List, [], _++_, map}
 use mathlib.Core.Logic.{⊎-elim}
 use Prim.Native.Nat.{ℕ, _+_, _-_, _≤_, _<_}
 use native.Mathlib.Omega.{arith}
 use lib.ListN.{length, getD, length-map}
-use Rattle.sequences.specs.Choice.{pick}
 use Rattle.sequences.specs.Range.{range}
 use Rattle.sequences.specs.Select.{filter}
 use Rattle.sequences.proofs.Booleans.{either-way}
@@ -15,8 +14,7 @@ use Rattle.sequences.proofs.Select.{filter-nil, filter-yes, filter-no}
 use Rattle.event_sets.proofs.Lists.{filter-length}
 use Rattle.timestamps.specs.declared.CompositeTimestamp.{CompositeTimestamp}
 use Rattle.timestamps.specs.Composite.{tickZero, stampAt, presentAt, members}
-use Rattle.forms.specs.Bytes.{bigEndian}
-use Rattle.forms.specs.Forms.{each, sectionBytes}
+use Rattle.forms.specs.Forms.{each}
 use Rattle.detections.specs.Findings.{stamp}
 use Rattle.detections.specs.Steps.{presentCount, oneIf, stampBytes}
 use Rattle.detections.specs.Views.{written}
@@ -59,9 +57,9 @@ module _ (loggers : List ℕ) (c : CompositeTimestamp) where
   unfoldable pub stampsFrom : ℕ → List ℕ
   stampsFrom k = each stamp (map (written loggers) (map (stampAt c) (filter (presentAt c) (range k (8 - k)))))
 
-  pub stamps-section : (n : ℕ) → n ≡ presentCount (c .present) → sectionBytes stamp (map (written loggers) (members c)) ≡ bigEndian 2 n ++ stampsFrom 0
-  unfolding sectionBytes stampsFrom members
-  stamps-section n e = rw (e, count-members c, length-map (members c) (written loggers))
+  pub stamps-start : stampsFrom 0 ≡ each stamp (map (written loggers) (members c))
+  unfolding stampsFrom members
+  stamps-start = refl
 
   pub stamps-turn : (k : ℕ) → k < 8 → stampsFrom k ≡ stampBytes (presentAt c k) (getD loggers k 0) (getD (c .ticks) k tickZero) ++ stampsFrom (k + 1)
   unfolding stampsFrom stampBytes each

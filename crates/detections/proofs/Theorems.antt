@@ -1,8 +1,8 @@
 -- Writing and reading: what was written is read back, and what is read is a finding that stands there. The findings that the code
 -- writes are within the reader's limits.
 use mathlib.Core.Path.{_≡_, refl, sym, ap, subst, _∙_}
-use mathlib.Core.Bool.{true, _&&_, true≢false}
-use mathlib.Core.List.{List, [], _∷_, _++_, append-assoc, List·Memᴰ·head, List·Memᴰ·tail, List·Memᴰ·cases-cons, List·Memᴰ·not-nil, List·Memᴰ·append-cases, List·Memᴰ·eq-of-singleton, Memᴰ·append-left, Memᴰ·append-right, map}
+use mathlib.Core.Bool.{true, true≢false}
+use mathlib.Core.List.{List, [], _∷_, _++_, append-assoc, List·Memᴰ·head, List·Memᴰ·tail, List·Memᴰ·cases-cons, List·Memᴰ·not-nil, List·Memᴰ·append-cases, List·Memᴰ·eq-of-singleton, Memᴰ·append-left, Memᴰ·append-right}
 use mathlib.Core.Logic.{⊎-elim}
 use Prim.Native.Nat.{ℕ, _+_, _≤_, _<_}
 use native.Mathlib.Omega.{arith}
@@ -19,20 +19,20 @@ use Rattle.timestamps.specs.declared.Timestamp.{Timestamp}
 use Rattle.timestamps.specs.declared.CompositeTimestamp.{CompositeTimestamp}
 use Rattle.timestamps.specs.Composite.{members}
 use Rattle.event_sets.specs.declared.EventSet.{EventSet}
-use Rattle.event_sets.specs.Sets.{Rising, elements, sizeOf}
+use Rattle.event_sets.specs.Sets.{Rising, sizeOf}
 use Rattle.event_sets.proofs.Members.{elements-below, elements-rising, size-most}
 use Rattle.forms.specs.Bytes.{bigEndian, Bytes}
 use Rattle.forms.specs.Forms.{number, sectionBytes}
 use Rattle.forms.specs.Sections.{Read, got, bad, then, piece, section}
 use Rattle.forms.proofs.Forms.{number-laws}
 use Rattle.forms.proofs.Pieces.{piece-got, piece-is, unless-none}
-use Rattle.forms.proofs.Layouts.{Fine, SectionOk, then-got, section-laid, section-read, rest, room}
+use Rattle.forms.proofs.Layouts.{Fine, then-got, section-laid, section-read, rest, room}
 use Rattle.detections.specs.declared.Stamp.{Stamp}
 use Rattle.detections.specs.Findings.{Finding, StampFits, FindingFits, stamp, findingBytes}
 use Rattle.detections.specs.Reader.{WithinLimits, stampSection, isNext, eventSection, findingAt, FindingAnswer, found, answered, readFinding}
 use Rattle.detections.specs.Views.{written, findingOf}
 use Rattle.detections.specs.Writing.{Wrote}
-use Rattle.detections.proofs.Sizes.{stamp-laws, length-two, length-parts}
+use Rattle.detections.proofs.Sizes.{stamp-laws, length-two}
 use Rattle.detections.proofs.Stamps.{members-most}
 use Rattle.detections.proofs.Writing.{wrote-there, wrote-length}
 

@@ -1,9 +1,7 @@
 -- The finding that the code's values stand for.
 use Prim.Native.Nat.{ℕ}
 use mathlib.Core.List.{List, map}
-use mathlib.Core.Bool.{Bool}
 use lib.ListN.{getD, take}
-use Rattle.sequences.specs.Choice.{pick}
 use Rattle.timestamps.specs.declared.Timestamp.{Timestamp}
 use Rattle.timestamps.specs.declared.CompositeTimestamp.{CompositeTimestamp}
 use Rattle.timestamps.specs.Composite.{members}

@@ -7,7 +7,7 @@ ghost use mathlib.Core.List.{List, map};
 ghost use Prim.Native.Nat.{ℕ, _+_, _≤_};
 ghost use lib.ListN.{length, take};
 ghost use Rattle.forms.specs.Bytes.{bigEndian};
-ghost use Rattle.forms.specs.Forms.{number, sectionBytes};
+ghost use Rattle.forms.specs.Forms.{number, each};
 ghost use Rattle.forms.specs.Sections.{outside, piece, section};
 ghost use Rattle.forms.specs.Views.{seen};
 ghost use Rattle.timestamps.specs.Composite.{members};
@@ -136,30 +136,27 @@ fn put_stamp(out: &mut [u8], at: usize, present: bool, logger: u64, tick: LocalT
     }
 }
 
-// The count of the stamps, and the stamps by rising logger.
+// The stamps, by rising logger.
 fn put_stamps(out: &mut [u8], at: usize, c: CompositeTimestamp, loggers: [u64; 8]) -> usize
-    requires { ⌜ at + length (sectionBytes stamp (map (written loggers) (members c))) ≤ length (now out) ⌝ }
-    ensures { λ r. ⌜ Wrote (now (out .entry)) at (sectionBytes stamp (map (written loggers) (members c))) r (now (out .exit)) ⌝ }
+    requires { ⌜ at + length (each stamp (map (written loggers) (members c))) ≤ length (now out) ⌝ }
+    ensures { λ r. ⌜ Wrote (now (out .entry)) at (each stamp (map (written loggers) (members c))) r (now (out .exit)) ⌝ }
 {
-    let present = c.present;
-    let n = stamp_count(present);
-    let mut to = put_u16(out, at, n as u64);
+    let mut to = at;
     let mut k: usize = 0;
     while k < 8 {
         let tick = c.ticks[k];
-        to = put_stamp(out, to, present[k], loggers[k], tick);
+        to = put_stamp(out, to, c.present[k], loggers[k], tick);
         k += 1;
     }
     to
 }
 
-// The count of the events, and their numbers, rising.
+// The numbers of the events, rising.
 fn put_events(out: &mut [u8], at: usize, s: EventSet) -> usize
-    requires { ⌜ at + length (sectionBytes (number 2) (elements s)) ≤ length (now out) ⌝ }
-    ensures { λ r. ⌜ Wrote (now (out .entry)) at (sectionBytes (number 2) (elements s)) r (now (out .exit)) ⌝ }
+    requires { ⌜ at + length (each (number 2) (elements s)) ≤ length (now out) ⌝ }
+    ensures { λ r. ⌜ Wrote (now (out .entry)) at (each (number 2) (elements s)) r (now (out .exit)) ⌝ }
 {
-    let n = event_sets::count(s);
-    let mut to = put_u16(out, at, n as u64);
+    let mut to = at;
     let mut e = event_sets::next_from(s, 0);
     while e < 128 {
         to = put_u16(out, to, e as u64);
@@ -174,10 +171,15 @@ pub fn write(out: &mut [u8], at: usize, d: Detection, loggers: [u64; 8]) -> usiz
     ensures { λ r. ⌜ Wrote (now (out .entry)) at (findingBytes (findingOf loggers (d .node) (d .latest) (d .events))) r (now (out .exit)) ⌝ }
 {
     let latest = d.latest;
+    let present = latest.present;
     let events = d.events;
+    let stamps = stamp_count(present);
+    let numbers = event_sets::count(events);
     let a = put_u16(out, at, d.node);
-    let b = put_stamps(out, a, latest, loggers);
-    put_events(out, b, events)
+    let b = put_u16(out, a, stamps as u64);
+    let c = put_stamps(out, b, latest, loggers);
+    let e = put_u16(out, c, numbers as u64);
+    put_events(out, e, events)
 }
 
 // ---- reading

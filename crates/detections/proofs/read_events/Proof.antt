@@ -1,8 +1,7 @@
 -- `detections::read_events`: the count, and a loop: the events that are left, read from here after those marked, are all of them.
-use mathlib.Core.Path.{_≡_, refl, sym, ap, _∙_}
+use mathlib.Core.Path.{_≡_, _∙_}
 use mathlib.Core.List.{[]}
 use Prim.Native.Nat.{_-_, _≤_}
-use native.Mathlib.Omega.{arith}
 use borrow.Author.Tests.{not-true, not-false}
 use Rattle.event_sets.specs.Sets.{elements}
 use Rattle.forms.specs.Sections.{entries}

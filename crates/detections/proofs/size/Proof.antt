@@ -27,7 +27,9 @@ add-result-2 c = omega (arith, c .count .ensures, size-most (c .before .before .
 returns : tie.Need-returns
 returns c =
     let d = c .before .before .before .args .d in
-    λ loggers. size-is loggers (d .node) (d .latest) (d .events) _ _ (c .before .stamp-count .ensures .0) (c .count .ensures)
+    let n = c .before .stamp-count in
+    let e = c .count in
+    λ loggers. omega (arith, size-is loggers (d .node) (d .latest) (d .events) (n .result) (e .result) (n .ensures .0) (e .ensures))
 
 pub size-spec : {M : Type 1} → statement M
 size-spec =
