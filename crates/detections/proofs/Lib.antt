@@ -4,6 +4,7 @@ pub mod Stamps
 pub mod Events
 pub mod Findings
 pub mod Telling
+pub mod Rising
 pub mod Reading
 pub mod Theorems
 pub mod Examples

@@ -1,7 +1,7 @@
 -- The reader's sections and its whole: what each place of the code needs.
 use mathlib.Core.Path.{_≡_, refl, sym, ap, _∙_}
 use mathlib.Core.Bool.{Bool, true, false, _&&_}
-use mathlib.Core.List.{List, [], _∷_, _++_, List·Memᴰ·head, List·Memᴰ·tail, List·Memᴰ·cases-cons, List·Memᴰ·not-nil, List·Memᴰ·append-cases, List·Memᴰ·eq-of-singleton, Memᴰ·append-left, Memᴰ·append-right}
+use mathlib.Core.List.{List, [], _∷_, _++_, List·Memᴰ·head, List·Memᴰ·append-cases, List·Memᴰ·eq-of-singleton, Memᴰ·append-left, Memᴰ·append-right}
 use mathlib.Core.Logic.{⊎-elim, inl, inr}
 use Prim.Native.Nat.{ℕ, _+_, _-_, _≤_, _<_}
 use native.Mathlib.Numerals.{add-one}
@@ -9,23 +9,43 @@ use native.Mathlib.Omega.{arith}
 use lib.ListN.{length}
 use lib.Dec.{leb, ltb, leb·zero}
 use borrow.Author.Tests.{lt-ltb, le-leb, ltb-true, leb-true}
-use Rattle.sequences.specs.Members.{_∈_, SameMembers}
+use Rattle.sequences.specs.Members.{_∈_}
 use Rattle.sequences.specs.Select.{all}
 use Rattle.sequences.proofs.Booleans.{either-way, same-test}
 use Rattle.sequences.proofs.Select.{all-of}
 use Rattle.event_sets.specs.declared.EventSet.{EventSet}
-use Rattle.event_sets.specs.Sets.{noEvents, markedWith, Rising, elements}
+use Rattle.event_sets.specs.Sets.{noEvents, markedWith, elements}
 use Rattle.event_sets.proofs.Members.{elements-none, elements-marked, elements-rising}
 use Rattle.forms.specs.Bytes.{valueAt}
 use Rattle.forms.specs.Forms.{number}
 use Rattle.forms.specs.Sections.{outside, Read, got, bad, piece, Section, entries, section}
-use Rattle.forms.specs.Views.{seen}
-use Rattle.forms.proofs.Pieces.{piece-same, piece-got, piece-short, piece-is, seen-got, seen-bad, got-seen, bad-seen, seen-right, outside-none}
+use Rattle.forms.specs.Views.{numberRead, readOf, seen}
+use Rattle.forms.specs.declared.NumberRead.{NumberRead}
+use Rattle.forms.specs.declared.NumberRead.the-variants.{CutShort, Outside, Value}
+use Rattle.forms.proofs.Pieces.{piece-same, piece-got, piece-short, piece-is, seen-got, seen-bad, got-seen, bad-seen, seen-right, outside-none, number-piece, number-value}
 use Rattle.forms.proofs.Sections.{entries-go, entries-stop, entries-end, count-stop, count-go}
 use Rattle.detections.specs.declared.Stamp.{Stamp}
 use Rattle.detections.specs.Findings.{stamp}
 use Rattle.detections.specs.Reader.{stampSection, eventSection, findingAt, found, notFound, readFinding}
 use Rattle.detections.specs.Steps.{faultOf}
+use Rattle.detections.proofs.Rising.{rising-snoc, rising-same}
+
+-- ---- a number, as `forms` reads it
+module _ (b : List ℕ) (at low high : ℕ) (r : NumberRead) (e : r ≡ numberRead 2 low high b at) where
+  judged-by : readOf 1 1 2 at r ≡ piece (number 2) 1 (outside low high 1) b at
+  judged-by = ap (readOf 1 1 2 at) e ∙ number-piece 2 low high b at 1 1 (omega arith)
+
+  pub number-cut : r ≡ CutShort → seen 1 0 at ≡ piece (number 2) 1 (outside low high 1) b at
+  number-cut f = bad-seen 1 0 at refl ∙ ap (readOf 1 1 2 at) (sym f) ∙ judged-by
+
+  pub number-over : r ≡ Outside → seen 1 0 at ≡ piece (number 2) 1 (outside low high 1) b at
+  number-over f = bad-seen 1 0 at refl ∙ ap (readOf 1 1 2 at) (sym f) ∙ judged-by
+
+  pub number-read : (v : ℕ) → r ≡ Value v → seen 0 v (at + 2) ≡ piece (number 2) 1 (outside low high 1) b at
+  number-read v f = got-seen v (at + 2) ∙ ap (readOf 1 1 2 at) (sym f) ∙ judged-by
+
+  pub number-known : (v : ℕ) → r ≡ Value v → (at + 2 ≤ length b) × (v ≤ high)
+  number-known v f = let k = number-value 2 low high b at v (sym e ∙ f) in (k .0, k .2)
 
 -- ---- a section's count, with the one fault
 module _ {A : Type 0} (s : Section A) (b : List ℕ) (start : ℕ) (whole : Bool) (n next : ℕ)
@@ -49,31 +69,7 @@ stamp-read b at v h e = seen-right stamp 1 (λ s. 0) b at v h e refl
 pub stamp-cut : (b : List ℕ) (at : ℕ) (v : Stamp) → length b < at + 10 → seen 1 v at ≡ piece stamp 1 (λ s. 0) b at
 stamp-cut b at v h = bad-seen 1 v at refl ∙ sym (piece-short stamp 1 (λ s. 0) b at h)
 
--- ---- rising lists
-rising-snoc : (l : List ℕ) (n : ℕ) → Rising l → ((j : ℕ) → j ∈ l → j < n) → Rising (l ++ (n ∷ []))
-unfolding Rising
-rising-snoc [] n r h = ((λ b m. absurd (List·Memᴰ·not-nil m)), tt)
-rising-snoc (a ∷ l) n r h = (
-  (λ b m. ⊎-elim (λ i. r .0 b i) (λ i. let e = List·Memᴰ·eq-of-singleton i in omega (arith, e, h a (List·Memᴰ·head refl))) (List·Memᴰ·append-cases l m)),
-  rising-snoc l n (r .1) (λ j m. h j (List·Memᴰ·tail m)),
-)
-
--- a rising list is known by its members
-rising-same : (l m : List ℕ) → Rising l → Rising m → SameMembers l m → l ≡ m
-unfolding Rising
-rising-same [] [] r q w = refl
-rising-same [] (b ∷ m) r q w = absurd (List·Memᴰ·not-nil (w .1 b (List·Memᴰ·head refl)))
-rising-same (a ∷ l) [] r q w = absurd (List·Memᴰ·not-nil (w .0 a (List·Memᴰ·head refl)))
-rising-same (a ∷ l) (b ∷ m) r q w =
-    let e : a ≡ b = ⊎-elim (λ e. e)
-    (λ i. ⊎-elim (λ f. sym f) (λ j. absurd (omega (arith, q .0 a i, r .0 b j))) (List·Memᴰ·cases-cons (w .1 b (List·Memᴰ·head refl))))
-    (List·Memᴰ·cases-cons (w .0 a (List·Memᴰ·head refl))) in
-    let t = rising-same l m (r .1) (q .1) (
-      (λ j i. ⊎-elim (λ f. absurd (omega (arith, r .0 j i, e, f))) (λ k. k) (List·Memᴰ·cases-cons (w .0 j (List·Memᴰ·tail i)))),
-      (λ j i. ⊎-elim (λ f. absurd (omega (arith, q .0 j i, e, f))) (λ k. k) (List·Memᴰ·cases-cons (w .1 j (List·Memᴰ·tail i)))),
-    ) in
-    λ i. e i ∷ t i
-
+-- ---- events
 -- a number above all elements comes after them
 elements-more : (s : EventSet) (n : ℕ) → n < 128 → ((j : ℕ) → j ∈ elements s → j < n) → elements (markedWith s n) ≡ elements s ++ (n ∷ [])
 elements-more s n h k =
@@ -82,7 +78,7 @@ elements-more s n h k =
       (λ j m. elements-marked s n j h .1 (⊎-elim (λ i. inr i) (λ i. inl (List·Memᴰ·eq-of-singleton i)) (List·Memᴰ·append-cases (elements s) m))),
     )
 
--- ---- the next event number: `least` is the least that is above those of l
+-- the next number: `least` is the least that is above those of l
 abbrev pub Least : List ℕ → ℕ → Type 0
 Least l least = (v : ℕ) → all (λ m. ltb m v) l ≡ leb least v
 

@@ -14,8 +14,8 @@ use Rattle.forms.proofs.Forms.{Laws, number-laws, pair-laws, via-laws}
 use Rattle.forms.proofs.Prefixes.{length-section}
 use Rattle.detections.specs.Findings.{Finding, toStamp, fromStamp, stamp, findingBytes}
 use Rattle.detections.specs.Steps.{stampBytes}
-use Rattle.detections.specs.Writing.{Wrote}
-use Rattle.detections.proofs.Writing.{put-two}
+use Rattle.detections.specs.Writing.{Wrote, Beyond}
+use Rattle.detections.proofs.Writing.{put-two, beyond-wrote}
 
 pub stamp-laws : Laws stamp
 stamp-laws = via-laws toStamp fromStamp (pair (number 2) (number 8)) (pair-laws (number 2) (number 8) (number-laws 2) (number-laws 8)) (λ a. refl) (λ s. refl)
@@ -63,3 +63,7 @@ length-finding f = omega (arith, length-parts f, length-section stamp stamp-laws
 
 pub finding-least : (f : Finding) → 6 ≤ length (findingBytes f)
 finding-least f = omega (arith, length-finding f)
+
+-- ---- one finding more in an output, after count of them
+pub beyond-finding : (f : Finding) {l l′ : List ℕ} {at r count : ℕ} → at + length (findingBytes f) ≤ length l → count ≤ at → Wrote l at (findingBytes f) r l′ → Beyond l l′ at (count + 1) r
+beyond-finding f h k w = beyond-wrote h (omega (arith, finding-least f)) k w

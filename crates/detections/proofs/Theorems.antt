@@ -1,6 +1,6 @@
 -- Writing and reading: what was written is read back, and what is read is a finding that stands there. The findings that the code
 -- writes are within the reader's limits.
-use mathlib.Core.Path.{_≡_, refl, sym, ap, subst, _∙_}
+use mathlib.Core.Path.{_≡_, refl, sym, ap, subst, subst₂, _∙_}
 use mathlib.Core.Bool.{true, true≢false}
 use mathlib.Core.List.{List, [], _∷_, _++_, append-assoc, List·Memᴰ·head, List·Memᴰ·tail, List·Memᴰ·cases-cons, List·Memᴰ·not-nil, List·Memᴰ·append-cases, List·Memᴰ·eq-of-singleton, Memᴰ·append-left, Memᴰ·append-right}
 use mathlib.Core.Logic.{⊎-elim}
@@ -114,7 +114,7 @@ fine-events p (a ∷ l) h =
       rising = ((λ n j. t .after a n (Memᴰ·append-right p (List·Memᴰ·head refl)) j), t .rising);
     }
 
--- ---- what is laid out is read
+-- ---- what is laid out is read, whatever follows
 pub laid-out-is-read : (f : Finding) (b y : List ℕ) (at : ℕ) → WithinLimits f → at ≤ length b → drop at b ≡ findingBytes f ++ y
     → readFinding b at ≡ found f (at + length (findingBytes f))
 unfolding readFinding findingAt findingBytes
@@ -146,6 +146,12 @@ written-is-read f l l′ at r w h v =
     let n = wrote-length h v in
     laid-out-is-read f l′ (drop r l) at w (omega arith) (wrote-there (omega arith) v) ∙ ap (found f) (sym (v .next))
 
+pub detection-is-read : (loggers : List ℕ) (node : ℕ) (c : CompositeTimestamp) (s : EventSet) (l l′ : List ℕ) (at r : ℕ) → node < 65536
+    → ((t : Timestamp) → t ∈ members c → StampFits (written loggers t))
+    → at + length (findingBytes (findingOf loggers node c s)) ≤ length l → Wrote l at (findingBytes (findingOf loggers node c s)) r l′
+    → readFinding l′ at ≡ found (findingOf loggers node c s) r
+detection-is-read loggers node c s l l′ at r h k fit w = written-is-read (findingOf loggers node c s) l l′ at r (finding-within loggers node c s h k) fit w
+
 -- ---- what is read is laid out
 read-got : (b : List ℕ) (at : ℕ) (f : Finding) (next : ℕ) → readFinding b at ≡ found f next → findingAt b at ≡ got f next
 unfolding readFinding
@@ -158,32 +164,44 @@ read-got b at f next h = go (findingAt b at) h
         rw (i, j)
     go (bad k m) h = absurd (true≢false (sym (ap (λ (a : FindingAnswer). a .whole) h)))
 
-pub read-is-laid-out : (b : List ℕ) (at : ℕ) (f : Finding) (next : ℕ) → Bytes b → readFinding b at ≡ found f next → (take next b ≡ take at b ++ findingBytes f) × WithinLimits f
-unfolding findingAt findingBytes
-read-is-laid-out b at f next B h =
-    let after-stamps : ℕ → List Stamp → ℕ → Read Finding = λ node ss at₂. then (section eventSection b at₂) (λ es at₃. got (record { node = node; stamps = ss; events = es }) at₃) in
-    let after-node : ℕ → ℕ → Read Finding = λ node at₁. then (section stampSection b at₁) (after-stamps node) in
-    let t = then-got (piece (number 2) 1 (λ node. 0) b at) after-node f next (read-got b at f next h) in
-    let u = then-got (section stampSection b (t .1)) (after-stamps (t .0)) f next (t .3) in
-    let v = then-got (section eventSection b (u .1)) (λ es at₃. got (record { node = t .0; stamps = u .0; events = es }) at₃) f next (u .3) in
-    let p = piece-got (number 2) 1 (λ node. 0) b at (t .0) (t .1) (t .2) in
-    let x₁ : take (t .1) b ≡ take at b ++ bigEndian 2 (t .0) =
-    ap (λ k. take k b) (sym (p .after)) ∙ take-add at 2 b ∙ ap (λ l. take at b ++ l) (sym (number-laws 2 .forth b at B (p .room)) ∙ ap (bigEndian 2) (p .is)) in
-    let x₂ = section-laid b B stampSection stamp-laws (t .1) (u .0) (u .1) _ (omega arith) x₁ (u .2) in
-    let x₃ = section-laid b B eventSection (number-laws 2) (u .1) (v .0) (v .1) _ (omega arith) (x₂ .0) (v .2) in
-    let g : record { node = t .0; stamps = u .0; events = v .0 } ≡ f = cc in
-    let n : v .1 ≡ next = cc in
-    let follow = fine-events [] (v .0) (x₃ .1 .fine) in
-    let small : t .0 < 65536 = subst (λ k. k < 65536) (p .is) (number-laws 2 .fit b at B (p .room)) in
-    subst (λ m. (take m b ≡ take at b ++ findingBytes f) × WithinLimits f) n
-    (subst (λ f. (take (v .1) b ≡ take at b ++ findingBytes f) × WithinLimits f) g (
-      x₃ .0 ∙ simp append-assoc,
-      record {
-        node = small;
-        stamp-count = x₂ .1 .most;
-        stamps = fine-stamps [] (u .0) (x₂ .1 .fine);
-        event-count = x₃ .1 .most;
-        events = follow .small;
-        rising = follow .rising;
-      },
-    ))
+module _ (b : List ℕ) (at : ℕ) where
+  abbrev Laid : Finding → ℕ → Type 0
+  Laid f next = (take next b ≡ take at b ++ findingBytes f) × WithinLimits f
+
+  module _ (B : Bytes b) (node at₁ : ℕ) (ss : List Stamp) (at₂ : ℕ) (es : List ℕ) (at₃ : ℕ) (n : piece (number 2) 1 (λ node. 0) b at ≡ got node at₁)
+      (s : section stampSection b at₁ ≡ got ss at₂) (t : section eventSection b at₂ ≡ got es at₃) where
+    parts-laid : Laid (record { node = node; stamps = ss; events = es }) at₃
+    unfolding findingBytes
+    parts-laid =
+        let p = piece-got (number 2) 1 (λ node. 0) b at node at₁ n in
+        let x₁ : take at₁ b ≡ take at b ++ bigEndian 2 node =
+        ap (λ k. take k b) (sym (p .after)) ∙ take-add at 2 b ∙ ap (λ l. take at b ++ l) (sym (number-laws 2 .forth b at B (p .room)) ∙ ap (bigEndian 2) (p .is)) in
+        let x₂ = section-laid b B stampSection stamp-laws at₁ ss at₂ (take at b ++ bigEndian 2 node) (omega arith) x₁ s in
+        let x₃ = section-laid b B eventSection (number-laws 2) at₂ es at₃ (take at b ++ bigEndian 2 node ++ sectionBytes stamp ss) (omega arith) (x₂ .0) t in
+        let follow = fine-events [] es (x₃ .1 .fine) in (
+          simp append-assoc (simp append-assoc at (x₃ .0)),
+          record {
+            node = subst (λ k. k < 65536) (p .is) (number-laws 2 .fit b at B (p .room));
+            stamp-count = x₂ .1 .most;
+            stamps = fine-stamps [] ss (x₂ .1 .fine);
+            event-count = x₃ .1 .most;
+            events = follow .small;
+            rising = follow .rising;
+          },
+        )
+
+  after-stamps : ℕ → List Stamp → ℕ → Read Finding
+  after-stamps node ss at₂ = then (section eventSection b at₂) (λ es at₃. got (record { node = node; stamps = ss; events = es }) at₃)
+
+  after-node : ℕ → ℕ → Read Finding
+  after-node node at₁ = then (section stampSection b at₁) (after-stamps node)
+
+  pub read-is-laid-out : (f : Finding) (next : ℕ) → Bytes b → readFinding b at ≡ found f next → (take next b ≡ take at b ++ findingBytes f) × WithinLimits f
+  unfolding findingAt after-stamps after-node
+  read-is-laid-out f next B h =
+      let (node, at₁, n, k) = then-got (piece (number 2) 1 (λ node. 0) b at) after-node f next (read-got b at f next h) in
+      let (ss, at₂, s, m) = then-got (section stampSection b at₁) (after-stamps node) f next k in
+      let (es, at₃, t, o) = then-got (section eventSection b at₂) (λ es at₃. got (record { node = node; stamps = ss; events = es }) at₃) f next m in
+      let g : record { node = node; stamps = ss; events = es } ≡ f = cc in
+      let q : at₃ ≡ next = cc in
+      subst₂ Laid g q (parts-laid B node at₁ ss at₂ es at₃ n s t)

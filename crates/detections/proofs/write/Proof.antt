@@ -58,7 +58,7 @@ put-events-requires c κs =
     let s = m .before .before .before .before .before .before in
     let d = s .args .d in
     let n = m .before .stamp-count in
-    events-room (s .args .loggers) (d .node) (d .latest) (d .events) (n .result) (m .count .result) (n .ensures .0) (m .count .ensures) _ _ (s .pre) (w₁ .put-u16 .ensures) (w₂ .put-u162 .ensures) (w₃ .put-stamps .ensures) (w₄ .put-u163 .ensures)
+    events-room (s .args .loggers) (d .node) (d .latest) (d .events) (n .result) (m .count .result) (n .ensures .0) (m .count .ensures) _ _ (s .pre) (w₁ .put-u16 .ensures) (w₂ .put-u162 .ensures) (w₃ .put-stamps .ensures) {a₄ = w₄ .put-u163 .result} {l₄ = w₄ .put-u163 .last .0} (w₄ .put-u163 .ensures)
 
 same-length : tie.Need-same-length
 same-length c = search needs
