@@ -1,0 +1,10 @@
+pub mod Writing
+pub mod Sizes
+pub mod Stamps
+pub mod Events
+pub mod Findings
+pub mod Telling
+pub mod Rising
+pub mod Reading
+pub mod Theorems
+pub mod Examples

@@ -1,0 +1,5 @@
+pub mod Findings
+pub mod Views
+pub mod Writing
+pub mod Steps
+pub mod Reader
