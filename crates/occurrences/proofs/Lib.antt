@@ -1,3 +1,4 @@
 pub mod Combination
 pub mod Events
+pub mod Latest
 pub mod Order

@@ -1,2 +1,3 @@
 pub mod Combination
+pub mod Latest
 pub mod Occurrences

@@ -2,6 +2,9 @@
 use mathlib.Core.Path.{_≡_, refl, sym, ap, _∙_}
 use mathlib.Core.List.{List, [], _∷_, _++_, map, List·Memᴰ·head, List·Memᴰ·tail, List·Memᴰ·cases-cons, List·Memᴰ·not-nil, Memᴰ·append-left, Memᴰ·append-right, List·Memᴰ·append-cases}
 use mathlib.Core.Logic.{_⊎_, inl, inr, ⊎-elim}
+use Prim.Native.Nat.{ℕ, zero, suc, _<_}
+use native.Mathlib.Omega.{arith}
+use lib.ListN.{length, getD}
 use Prim.Native.Nat.{_<_}
 use native.Mathlib.Omega.{arith}
 use lib.ListN.{length}
@@ -29,6 +32,12 @@ module _ {A B : Type 0} (f : A → B) where
   pub map-same : (g : A → B) (l : List A) → ((a : A) → a ∈ l → f a ≡ g a) → map f l ≡ map g l
   map-same g [] h = refl
   map-same g (x ∷ l) h = rw (h x (List·Memᴰ·head refl), map-same g l (λ a m. h a (List·Memᴰ·tail m)))
+
+-- what stands at a place is an element
+pub getD-in : {A : Type 0} (l : List A) (i : ℕ) (d : A) → i < length l → getD l i d ∈ l
+getD-in [] i d h = absurd (omega arith)
+getD-in (a ∷ l) zero d h = List·Memᴰ·head refl
+getD-in (a ∷ l) (suc i) d h = List·Memᴰ·tail (getD-in l i d (omega arith))
 
 module _ {A : Type 0} where
   pub same-refl : (l : List A) → SameMembers l l

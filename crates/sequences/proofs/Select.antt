@@ -8,10 +8,10 @@ use native.Mathlib.Omega.{arith}
 use lib.ListN.{length}
 use Rattle.sequences.specs.Choice.{pick}
 use Rattle.sequences.specs.Loops.{fold}
-use Rattle.sequences.specs.Members.{_∈_}
+use Rattle.sequences.specs.Members.{_∈_, SameMembers}
 use Rattle.sequences.specs.Range.{Rising}
 use Rattle.sequences.specs.Select.{filter, any, all}
-use Rattle.sequences.proofs.Booleans.{either-way, never-both, or-cases, or-left, or-right, and-left, and-right, and-both, false-of-not-true}
+use Rattle.sequences.proofs.Booleans.{either-way, never-both, or-cases, or-left, or-right, and-left, and-right, and-both, false-of-not-true, same-test}
 
 module _ {A : Type 0} (p : A → Bool) where
   pub filter-yes : (a : A) (l : List A) → p a ≡ true → filter p (a ∷ l) ≡ a ∷ filter p l
@@ -191,3 +191,26 @@ module _ {S A B : Type 0} (f : S → B → S) (g : A → B) (q : A → Bool) whe
   unfolding fold
   fold-select [] s = rw (filter-nil q)
   fold-select (a ∷ l) s = ⊎-elim (λ y. rw (filter-yes q a l y, y, fold-select l (f s (g a)))) (λ n. rw (filter-no q a l n, n, fold-select l s)) (either-way (q a))
+
+-- ---- lists with the same members
+module _ {A : Type 0} (p : A → Bool) (l m : List A) (w : SameMembers l m) where
+  pub any-members : any p l ≡ any p m
+  any-members = same-test (any p l) (any p m)
+      (λ e. let (a, i, y) = any-of p l e in any-in p m (w .0 a i) y)
+      (λ e. let (a, i, y) = any-of p m e in any-in p l (w .1 a i) y)
+
+  pub all-members : all p l ≡ all p m
+  all-members = same-test (all p l) (all p m)
+      (λ e. all-in p m (λ a i. all-of p l e (w .1 a i)))
+      (λ e. all-in p l (λ a i. all-of p m e (w .0 a i)))
+
+pub any-or : {A : Type 0} (p q : A → Bool) (l : List A) → any (λ a. p a || q a) l ≡ (any p l || any q l)
+unfolding any
+any-or p q [] = refl
+any-or p q (a ∷ l) = rw (any-or p q l) (four (p a) (q a) (any p l) (any q l))
+  where
+    four : (a b c d : Bool) → ((a || b) || (c || d)) ≡ ((a || c) || (b || d))
+    four true b c d = refl
+    four false true true d = refl
+    four false true false d = refl
+    four false false c d = refl

@@ -4,4 +4,5 @@ pub mod Groupings
 pub mod Join
 pub mod Maxima
 pub mod Order
+pub mod Relations
 pub mod Steps

@@ -1,0 +1,11 @@
+// Links the archive that `rt staticlib rathunxa` writes.
+use std::env;
+use std::path::PathBuf;
+
+fn main() {
+    let here = PathBuf::from(env::var("CARGO_MANIFEST_DIR").expect("set by cargo"));
+    let folder = here.join("../target/staticlib");
+    println!("cargo:rerun-if-changed={}", folder.join("librathunxa.a").display());
+    println!("cargo:rustc-link-search=native={}", folder.display());
+    println!("cargo:rustc-link-lib=static=rathunxa");
+}

@@ -1,0 +1,9 @@
+//! Seeded cases. The same seed and case number always give the same case.
+
+mod open_calls;
+mod random;
+#[cfg(test)]
+mod tests;
+
+pub use open_calls::{compare_case, composite, entries, join_case, CompareCase, JoinCase};
+pub use random::Random;

@@ -1,0 +1,36 @@
+//! The values that go in and out of the open calls, laid out as in include/rathunxa.h.
+
+use std::fmt;
+
+/// A logger place and a local tick.
+#[repr(C)]
+#[derive(Clone, Copy, PartialEq, Eq, PartialOrd, Ord)]
+pub struct Timestamp {
+    pub logger: u8,
+    pub tick: u64,
+}
+
+/// As the scope document writes it: 1:80 is logger 1, tick 80.
+impl fmt::Debug for Timestamp {
+    fn fmt(&self, f: &mut fmt::Formatter<'_>) -> fmt::Result {
+        write!(f, "{}:{}", self.logger, self.tick)
+    }
+}
+
+#[repr(C)]
+#[derive(Debug, Clone, Copy, PartialEq, Eq)]
+pub struct JoinAnswer {
+    pub number: u64,
+    pub place: u64,
+    pub timestamps: [Timestamp; 8],
+}
+
+#[repr(C)]
+#[derive(Debug, Clone, Copy, PartialEq, Eq)]
+pub struct Comparison {
+    pub number: u64,
+    pub place: u64,
+    pub before: bool,
+    pub concurrent: bool,
+    pub weakly_before: bool,
+}

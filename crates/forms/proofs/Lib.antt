@@ -1,0 +1,6 @@
+pub mod Numbers
+pub mod Forms
+pub mod Pieces
+pub mod Sections
+pub mod Layouts
+pub mod Faults

@@ -1,0 +1,3 @@
+pub mod Comparisons
+pub mod Folds
+pub mod Joins

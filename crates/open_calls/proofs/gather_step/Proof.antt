@@ -1,0 +1,32 @@
+-- By the verdict so far, then the entry.
+use Rattle.open_calls.specs.Steps.{gatherStep}
+use mathlib.Core.Path.{sym, _∙_, ap}
+use borrow.Author.Needs.{needs}
+use Rattle.open_calls.proofs.gather_step.Statement.{statement}
+use Rattle.open_calls.proofs.gather_step.Tie as tie
+
+is-refusal-requires : tie.Need-is-refusal-requires
+is-refusal-requires c κs = search needs
+
+valid-requires : tie.Need-valid-requires
+valid-requires c κs = search needs
+
+gather-requires : tie.Need-gather-requires
+gather-requires c κs = search needs
+
+returns : tie.Need-returns
+unfolding gatherStep
+returns c = simp (sym (c .before .is-refusal .ensures) ∙ c .if1 .taken)
+
+returns-2 : tie.Need-returns-2
+unfolding gatherStep
+returns-2 c = simp (sym (c .before .before .before .before .is-refusal .ensures) ∙ c .before .before .before .if1 .left, sym (c .before .before .valid .ensures) ∙ c .before .if2 .taken, c .gather .ensures)
+
+returns-3 : tie.Need-returns-3
+unfolding gatherStep
+returns-3 c = simp (sym (c .before .before .before .before .is-refusal .ensures) ∙ c .before .before .before .if1 .left, sym (c .before .before .valid .ensures) ∙ c .before .if2 .left)
+
+pub gather-step-spec : {M : Type 1} → statement M
+gather-step-spec =
+    tie.close
+    (tie.spec is-refusal-requires valid-requires gather-requires returns returns-2 returns-3)

@@ -1,0 +1,60 @@
+-- The places before k are shown.
+use mathlib.Core.Path.{_≡_, refl, sym, ap, _∙_}
+use Prim.Native.Nat.{_≤_, _-_}
+use borrow.Author.Needs.{needs}
+use lib.ListN.{replicate}
+use Rattle.timestamps.specs.Order.{blank}
+use Rattle.timestamps.proofs.Steps.{filledTo, filled-start, filled-turn, filled-end}
+use Rattle.open_calls.specs.Answers.{shown, shownAt}
+use Rattle.open_calls.proofs.show.Statement.{statement}
+use Rattle.open_calls.proofs.show.Tie as tie
+
+abbrev Inv-loop : tie.InvT-loop
+Inv-loop c all₀ k₀ all k = (k ≤ 8) × (all ≡ filledTo blank (shownAt c) k)
+
+abbrev μ-loop : tie.MeasureT-loop
+μ-loop c all₀ k₀ all k = 8 - k
+
+blank-requires : tie.Need-blank-requires Inv-loop μ-loop
+blank-requires c κs = search needs
+
+loop-holds : tie.Need-loop-holds Inv-loop μ-loop
+loop-holds c = (search needs, ap (replicate 8) (c .blank .ensures) ∙ filled-start _ _)
+
+show-at-requires : tie.Need-show-at-requires Inv-loop μ-loop
+show-at-requires c κs = search needs
+
+mul-all : tie.Need-mul-all Inv-loop μ-loop
+mul-all c = search needs
+
+array-set-from-all : tie.Need-array-set-from-all Inv-loop μ-loop
+array-set-from-all c = search needs
+
+add-k : tie.Need-add-k Inv-loop μ-loop
+add-k c = search needs
+
+loop-less : tie.Need-loop-less Inv-loop μ-loop
+loop-less c = search needs
+
+loop-again : tie.Need-loop-again Inv-loop μ-loop
+loop-again c = (search needs, filled-turn _ _ _ _ _ (c .before .loop-test .taken) (c .before .before .loop .inv .1) (c .show-at .ensures))
+
+returns : tie.Need-returns Inv-loop μ-loop
+unfolding shown
+returns c = filled-end _ _ _ _ (c .before .loop .inv .0) (c .loop-test .left) (c .before .loop .inv .1)
+
+pub show-spec : {M : Type 1} → statement M
+show-spec =
+    tie.close
+    (tie.spec
+    Inv-loop
+    μ-loop
+    blank-requires
+    loop-holds
+    show-at-requires
+    mul-all
+    array-set-from-all
+    add-k
+    loop-less
+    loop-again
+    returns)

@@ -1,0 +1,5 @@
+pub mod Examples
+pub mod Limits
+pub mod Sections
+pub mod Theorems
+pub mod Whole

@@ -1,0 +1,29 @@
+-- The plan file as document 01 lays it out, under "Files": four sections, each after its count, integers big-endian.
+use Prim.Native.Nat.{ℕ}
+use mathlib.Core.List.{List, [], _∷_, _++_}
+use Rattle.forms.specs.Forms.{Form, number, pair, via, sectionBytes}
+use Rattle.plans.specs.declared.Node.{Node}
+
+pub record Plan : Type 0 where
+  -- local ticks in a global tick
+  pub ratio : ℕ
+  -- numbers of the loggers and of the kinds
+  pub loggers : List ℕ
+  pub kinds : List ℕ
+  pub nodes : List Node
+
+-- a node: operator 1 byte, context 1 byte, left input 2 bytes, right input 2 bytes
+abbrev pub toNode : ℕ × (ℕ × (ℕ × ℕ)) → Node
+toNode p = record { operator = p .0; context = p .1 .0; left = p .1 .1 .0; right = p .1 .1 .1 }
+
+abbrev pub fromNode : Node → ℕ × (ℕ × (ℕ × ℕ))
+fromNode n = (n .operator, (n .context, (n .left, n .right)))
+
+abbrev pub node : Form Node
+node = via toNode fromNode (pair (number 1) (pair (number 1) (pair (number 2) (number 2))))
+
+-- clocks: the ratio, 4 bytes; loggers and kinds: a number each, 2 bytes; nodes
+unfoldable pub planBytes : Plan → List ℕ
+planBytes p =
+    sectionBytes (number 4) (p .ratio ∷ []) ++ sectionBytes (number 2) (p .loggers) ++ sectionBytes (number 2) (p .kinds)
+    ++ sectionBytes node (p .nodes)

@@ -1,0 +1,5 @@
+pub mod Faults
+pub mod Layout
+pub mod Limits
+pub mod Reader
+pub mod Views

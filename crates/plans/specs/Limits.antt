@@ -1,0 +1,41 @@
+-- The limits of a plan, in document 01's words.
+use mathlib.Core.Path.{_≡_}
+use mathlib.Core.Logic.{_⊎_}
+use Prim.Native.Nat.{ℕ, _+_, _≤_, _<_}
+use mathlib.Core.List.{List}
+use lib.ListN.{length, getD}
+use Rattle.plans.specs.Layout.{Plan}
+use Rattle.plans.specs.declared.Node.{Node}
+
+-- at least one and at most so many numbers of two bytes, strictly rising
+pub record NumbersOk (limit : ℕ) (l : List ℕ) : Type 0 where
+  pub least : 1 ≤ length l
+  pub most : length l ≤ limit
+  pub small : (i : ℕ) → i < length l → getD l i 0 < 65536
+  pub rising : (i : ℕ) → i + 1 < length l → getD l i 0 < getD l (i + 1) 0
+
+-- the place of a kind, or 32,768 plus the place of an earlier node
+abbrev pub InputOk : ℕ → ℕ → ℕ → Type 0
+InputOk kinds place x = (x < kinds) ⊎ ((earlier : ℕ) × (earlier < place) × (x ≡ 32768 + earlier))
+
+-- the node at a place, under so many kinds
+pub record NodeOk (kinds place : ℕ) (n : Node) : Type 0 where
+  pub operator-least : 1 ≤ n .operator
+  pub operator-most : n .operator ≤ 3
+  pub context-least : 1 ≤ n .context
+  pub context-most : n .context ≤ 4
+  pub left : InputOk kinds place (n .left)
+  pub right : InputOk kinds place (n .right)
+
+-- stands for a node where there is none
+abbrev pub noNode : Node
+noNode = record { operator = 0; context = 0; left = 0; right = 0 }
+
+pub record PlanOk (p : Plan) : Type 0 where
+  pub ratio-least : 1 ≤ p .ratio
+  pub ratio-most : p .ratio ≤ 1000000
+  pub loggers : NumbersOk 8 (p .loggers)
+  pub kinds : NumbersOk 32 (p .kinds)
+  pub nodes-least : 1 ≤ length (p .nodes)
+  pub nodes-most : length (p .nodes) ≤ 16
+  pub nodes : (i : ℕ) → i < length (p .nodes) → NodeOk (length (p .kinds)) i (getD (p .nodes) i noNode)
