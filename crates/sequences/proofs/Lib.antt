@@ -1,6 +1,7 @@
 pub mod Arrays
 pub mod Booleans
 pub mod Loops
+pub mod Marks
 pub mod Members
 pub mod Parts
 pub mod Range
