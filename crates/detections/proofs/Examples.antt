@@ -7,7 +7,7 @@ use Rattle.sequences.specs.Select.{filter, any, all}
 use Rattle.timestamps.specs.Composite.{members, tickOf, compositeOf}
 use Rattle.timestamps.specs.Examples.{stamped}
 use Rattle.event_sets.specs.declared.EventSet.{EventSet}
-use Rattle.event_sets.specs.Sets.{isSet, has, countUp, elements}
+use Rattle.event_sets.specs.Sets.{isSet, has, elements}
 use Rattle.forms.specs.Bytes.{bigEndian, valueOf}
 use Rattle.forms.specs.Forms.{each, sectionBytes}
 use Rattle.forms.specs.Sections.{piece, entries, section}
@@ -26,7 +26,7 @@ abbrev D1 : Finding
 D1 = record { node = 0; stamps = record { logger = 2; tick = record { 0 = 110 } } ∷ []; events = 1 ∷ 2 ∷ [] }
 
 D1-finding : findingOf loggers 0 (compositeOf (stamped 1 110 ∷ [])) eventsOneTwo ≡ D1
-unfolding findingOf members compositeOf tickOf any filter range elements has isSet countUp
+unfolding findingOf members compositeOf tickOf any filter range elements has isSet
 D1-finding = refl
 
 -- 20 bytes

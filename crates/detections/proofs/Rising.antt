@@ -7,16 +7,14 @@ use Prim.Native.Nat.{ℕ, zero, suc, _+_, _<_}
 use native.Mathlib.Omega.{arith}
 use lib.ListN.{getD}
 use Rattle.sequences.specs.Members.{_∈_, SameMembers}
-use Rattle.sequences.specs.Range.{range}
+use Rattle.sequences.specs.Range.{range, Rising}
 use Rattle.sequences.specs.Select.{filter}
 use Rattle.sequences.proofs.Members.{map-of}
 use Rattle.sequences.proofs.Range.{range-of}
-use Rattle.sequences.proofs.Select.{filter-of}
+use Rattle.sequences.proofs.Select.{filter-of, filter-rising}
 use Rattle.timestamps.specs.declared.CompositeTimestamp.{CompositeTimestamp}
 use Rattle.timestamps.specs.Composite.{loggerPlaces, presentAt, stampAt, members}
 use Rattle.event_sets.specs.declared.EventSet.{EventSet}
-use Rattle.event_sets.specs.Sets.{Rising}
-use Rattle.event_sets.proofs.Lists.{filter-rising}
 use Rattle.detections.specs.declared.Stamp.{Stamp}
 use Rattle.detections.specs.Views.{written, findingOf}
 

@@ -11,7 +11,7 @@ use Rattle.sequences.specs.Select.{filter}
 use Rattle.sequences.proofs.Booleans.{either-way}
 use Rattle.sequences.proofs.Range.{range-turn, range-end, length-range}
 use Rattle.sequences.proofs.Select.{filter-nil, filter-yes, filter-no}
-use Rattle.event_sets.proofs.Lists.{filter-length}
+use Rattle.sequences.proofs.Select.{filter-length}
 use Rattle.timestamps.specs.declared.CompositeTimestamp.{CompositeTimestamp}
 use Rattle.timestamps.specs.Composite.{tickZero, stampAt, presentAt, members}
 use Rattle.forms.specs.Forms.{each}

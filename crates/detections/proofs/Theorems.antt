@@ -19,7 +19,8 @@ use Rattle.timestamps.specs.declared.Timestamp.{Timestamp}
 use Rattle.timestamps.specs.declared.CompositeTimestamp.{CompositeTimestamp}
 use Rattle.timestamps.specs.Composite.{members}
 use Rattle.event_sets.specs.declared.EventSet.{EventSet}
-use Rattle.event_sets.specs.Sets.{Rising, sizeOf}
+use Rattle.event_sets.specs.Sets.{sizeOf}
+use Rattle.sequences.specs.Range.{Rising}
 use Rattle.event_sets.proofs.Members.{elements-below, elements-rising, size-most}
 use Rattle.forms.specs.Bytes.{bigEndian, Bytes}
 use Rattle.forms.specs.Forms.{number, sectionBytes}

@@ -6,7 +6,7 @@ use lib.ListN.{length}
 use lib.Dec.{ltb}
 use Rattle.sequences.specs.Members.{_∈_}
 use Rattle.sequences.specs.Select.{all}
-use Rattle.event_sets.specs.Sets.{Rising}
+use Rattle.sequences.specs.Range.{Rising}
 use Rattle.forms.specs.Forms.{number}
 use Rattle.forms.specs.Sections.{unless, Read, got, bad, then, piece, Section, section}
 use Rattle.detections.specs.declared.Stamp.{Stamp}

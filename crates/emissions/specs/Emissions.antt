@@ -1,0 +1,69 @@
+-- Document 01, "How an event is worked" and 31 to 33: what a node makes goes to the output and to later nodes.
+use mathlib.Core.Bool.{Bool}
+use mathlib.Core.List.{List, [], _∷_, _++_}
+use Prim.Native.Nat.{ℕ, _+_}
+use lib.Dec.{leb, ltb}
+use lib.ListN.{length, take}
+use Rattle.sequences.specs.Choice.{pick}
+use Rattle.sequences.specs.Loops.{fold}
+use Rattle.detections.specs.Findings.{findingBytes}
+use Rattle.detections.specs.Views.{findingOf}
+use Rattle.occurrences.specs.declared.Occurrence.{Occurrence}
+use Rattle.emissions.specs.declared.Emit.{Emit}
+use Rattle.emissions.specs.declared.Limit.{Limit}
+use Rattle.emissions.specs.declared.Limit.the-variants.{None, ListFull, NodeFull, OutputFull}
+use Rattle.emissions.specs.declared.Made.{Made}
+
+-- document 01's number of each limit
+unfoldable pub numberOf : Limit → ℕ
+numberOf None = 0
+numberOf ListFull = 31
+numberOf NodeFull = 32
+numberOf OutputFull = 33
+
+-- a limit has ended the work
+abbrev pub reached : ℕ → Bool
+reached limit = ltb 0 limit
+
+-- a node's findings from this event so far; all findings of the passage, their bytes, and the limit that ended the work, 0 for none
+pub record Emitting : Type 0 where
+  pub made : List Occurrence
+  pub findings : ℕ
+  pub bytes : List ℕ
+  pub limit : ℕ
+
+-- the work ends under this number; what was made before stays
+abbrev pub ended : Emitting → ℕ → Emitting
+ended e limit = record { made = e .made; findings = e .findings; bytes = e .bytes; limit = limit }
+
+-- an occurrence's bytes as a finding of the node at a place
+abbrev pub bytesOf : List ℕ → ℕ → Occurrence → List ℕ
+bytesOf loggers place o = findingBytes (findingOf loggers place (o .latest) (o .events))
+
+-- one finding within `room` output bytes: 32 where this node has made 8 from this event, 33 where it does not fit whole in the output left.
+-- After a limit nothing happens
+unfoldable pub emitted : ℕ → List ℕ → ℕ → Emitting → Occurrence → Emitting
+emitted room loggers place e o =
+    pick (reached (e .limit)) e
+    (pick (leb 8 (length (e .made))) (ended e (numberOf NodeFull))
+    (pick (ltb room (length (e .bytes) + length (bytesOf loggers place o))) (ended e (numberOf OutputFull))
+    (record {
+      made = e .made ++ (o ∷ []);
+      findings = e .findings + 1;
+      bytes = e .bytes ++ bytesOf loggers place o;
+      limit = numberOf None;
+    })))
+
+-- findings one after the other
+unfoldable pub emittedAll : ℕ → List ℕ → ℕ → Emitting → List Occurrence → Emitting
+emittedAll room loggers place e l = fold (emitted room loggers place) l e
+
+-- ---- what the code's values stand for
+abbrev pub heldMade : Made → List Occurrence
+heldMade m = take (m .len) (m .items)
+
+unfoldable pub moreMade : List Occurrence → Occurrence → List Occurrence
+moreMade l o = pick (leb 8 (length l)) l (l ++ (o ∷ []))
+
+abbrev pub emitOf : Emit → List ℕ → Emitting
+emitOf e out = record { made = heldMade (e .made); findings = e .findings; bytes = take (e .at) out; limit = numberOf (e .limit) }

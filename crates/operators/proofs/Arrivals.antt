@@ -1,0 +1,147 @@
+-- Which way an arrival goes.
+use mathlib.Core.Bool.{Bool, true, false, not, _||_}
+use mathlib.Core.List.{List, [], _∷_, _++_}
+use mathlib.Core.Path.{_≡_, refl, sym, ap, _∙_}
+use Prim.Native.Nat.{ℕ, _+_, _≤_, _<_}
+use native.Mathlib.Omega.{arith}
+use lib.Dec.{eqb, leb, leb·suc-suc, leb·suc-zero}
+use lib.ListN.{drop, getD, length, take}
+use borrow.Author.Tests.{eq-eqb, ne-eqb}
+use Rattle.sequences.specs.Choice.{pick}
+use Rattle.sequences.specs.Loops.{fold}
+use Rattle.sequences.specs.Marks.{firstMark, marked, unmarked}
+use Rattle.sequences.specs.Select.{any}
+use Rattle.sequences.proofs.Loops.{fold-none, fold-turn, fold-end}
+use Rattle.occurrences.specs.declared.Occurrence.{Occurrence}
+use Rattle.waiting_lists.specs.Waiting.{appendedTo, isFull}
+use Rattle.contexts.specs.declared.Choice.{Choice}
+use Rattle.contexts.specs.Choice.{andCandidates, chosen, seqCandidates}
+use Rattle.contexts.specs.Made.{madeOf}
+use Rattle.contexts.specs.Table.{rowOf}
+use Rattle.plans.specs.declared.Node.{Node}
+use Rattle.emissions.specs.declared.Limit.the-variants.{None, ListFull}
+use Rattle.emissions.specs.Emissions.{Emitting, emitted, emittedAll, ended, numberOf, reached}
+use Rattle.operators.specs.Turns.{Met, Setting, Sides, Turned, andArrived, findingsOf, arrived, joinsBy, leftSides, metBy, nodeTurn, orArrived, restOf, rightSides, seqLeft, seqRight, waited}
+
+-- ---- meeting the candidates
+module _ (s : Setting) (node : Node) (place : ℕ) (l : List Occurrence) (candidates : List Bool) (e f : Emitting) (o : Occurrence) (c : Choice) (made : List Occurrence)
+    (chose : c ≡ chosen (rowOf (node .context)) (s .ratio) l candidates)
+    (found : made ≡ madeOf (rowOf (node .context) .finds) (s .ratio) (marked l (c .taken)) o)
+    (wrote : f ≡ emittedAll (s .room) (s .loggers) place e made) where
+  findings-are : made ≡ findingsOf s node l candidates o
+  unfolding findingsOf
+  findings-are = rw (← chose) found
+
+  emit-is : f ≡ emittedAll (s .room) (s .loggers) place e (findingsOf s node l candidates o)
+  emit-is = wrote ∙ ap (emittedAll (s .room) (s .loggers) place e) findings-are
+
+  pub met-stopped : reached (f .limit) ≡ true → _≡_ {A = Met} (record { list = l; emit = f }) (metBy s node place l candidates e o)
+  unfolding metBy
+  met-stopped h = rw (← emit-is, h)
+
+  pub met-goes : (rest : List Occurrence) → reached (f .limit) ≡ false → rest ≡ unmarked l (c .removed) → _≡_ {A = Met} (record { list = rest; emit = f }) (metBy s node place l candidates e o)
+  unfolding metBy restOf
+  met-goes rest h r = rw (← emit-is, h, r, ← chose)
+
+-- ---- waiting
+module _ (l : List Occurrence) (e : Emitting) (o : Occurrence) where
+  pub wait-stopped : reached (e .limit) ≡ true → _≡_ {A = Met} (record { list = l; emit = e }) (waited l e o)
+  unfolding waited
+  wait-stopped h = rw h
+
+  pub wait-full : reached (e .limit) ≡ false → isFull l ≡ true → _≡_ {A = Met} (record { list = l; emit = ended e (numberOf ListFull) }) (waited l e o)
+  unfolding waited
+  wait-full h f = rw (h, f)
+
+  pub wait-goes : (l′ : List Occurrence) → reached (e .limit) ≡ false → isFull l ≡ false → l′ ≡ appendedTo l o → _≡_ {A = Met} (record { list = l′; emit = e }) (waited l e o)
+  unfolding waited appendedTo
+  wait-goes l′ h f g = rw (h, f) (ap (λ (m : List Occurrence). record { list = m; emit = e }) (rw f at g))
+
+-- ---- whether an arrival at an AND node waits
+pub joins-recent : (context : ℕ) (candidates : List Bool) → context ≡ 1 → true ≡ joinsBy context candidates
+unfolding joinsBy
+joins-recent context candidates h = rw (eq-eqb context 1 h)
+
+none-marked : (m : List Bool) → leb (length m) (firstMark m) ≡ not (any (λ b. b) m)
+unfolding firstMark any
+none-marked [] = refl
+none-marked (true ∷ m) = leb·suc-zero (length m)
+none-marked (false ∷ m) = leb·suc-suc (length m) (firstMark m) ∙ none-marked m
+
+pub joins-other : (context : ℕ) (candidates : List Bool) (first : ℕ) → (context ≡ 1 → ⊥) → length candidates ≡ 16 → first ≡ firstMark candidates → leb 16 first ≡ joinsBy context candidates
+unfolding joinsBy
+joins-other context candidates first h full e = rw (ne-eqb context 1 h, e, ← full) (none-marked candidates)
+
+-- ---- AND
+module _ (s : Setting) (node : Node) (place : ℕ) (own other : List Occurrence) (e : Emitting) (o : Occurrence) (marks : List Bool) (m : Met) (j : Bool)
+    (all : marks ≡ andCandidates other) (met : m ≡ metBy s node place other marks e o) (joins : j ≡ joinsBy (node .context) marks) where
+  met-all : m ≡ metBy s node place other (andCandidates other) e o
+  met-all = met ∙ ap (λ c. metBy s node place other c e o) all
+
+  joins-all : j ≡ joinsBy (node .context) (andCandidates other)
+  joins-all = joins ∙ ap (joinsBy (node .context)) all
+
+  pub and-waits : (w : Met) → j ≡ true → w ≡ waited own (m .emit) o → _≡_ {A = Sides} (record { own = w .list; other = m .list; emit = w .emit }) (andArrived s node place own other e o)
+  unfolding andArrived
+  and-waits w y x = rw (← met-all, ← joins-all, y, x)
+
+  pub and-gone : j ≡ false → _≡_ {A = Sides} (record { own = own; other = m .list; emit = m .emit }) (andArrived s node place own other e o)
+  unfolding andArrived
+  and-gone n = rw (← met-all, ← joins-all, n)
+
+-- ---- the dispatch
+module _ (s : Setting) (node : Node) (place : ℕ) (left : Bool) (t : Turned) (o : Occurrence) where
+  pub arrive-stopped : reached (t .emit .limit) ≡ true → t ≡ arrived s node place left t o
+  unfolding arrived
+  arrive-stopped h = rw h
+
+  module _ (go : reached (t .emit .limit) ≡ false) (r : Turned) where
+    pub arrive-or : node .operator ≡ 1 → r ≡ orArrived s place t o → r ≡ arrived s node place left t o
+    unfolding arrived
+    arrive-or h e = rw (go, eq-eqb (node .operator) 1 h) e
+
+    module _ (h : node .operator ≡ 1 → ⊥) where
+      pub arrive-and-left : node .operator ≡ 2 → left ≡ true → r ≡ leftSides (andArrived s node place (t .left) (t .right) (t .emit) o) → r ≡ arrived s node place left t o
+      unfolding arrived
+      arrive-and-left k l e = rw (go, ne-eqb (node .operator) 1 h, eq-eqb (node .operator) 2 k, l) e
+
+      pub arrive-and-right : node .operator ≡ 2 → left ≡ false → r ≡ rightSides (andArrived s node place (t .right) (t .left) (t .emit) o) → r ≡ arrived s node place left t o
+      unfolding arrived
+      arrive-and-right k l e = rw (go, ne-eqb (node .operator) 1 h, eq-eqb (node .operator) 2 k, l) e
+
+      pub arrive-seq-left : (node .operator ≡ 2 → ⊥) → left ≡ true → r ≡ seqLeft t o → r ≡ arrived s node place left t o
+      unfolding arrived
+      arrive-seq-left k l e = rw (go, ne-eqb (node .operator) 1 h, ne-eqb (node .operator) 2 k, l) e
+
+      pub arrive-seq-right : (node .operator ≡ 2 → ⊥) → left ≡ false → r ≡ seqRight s node place t o → r ≡ arrived s node place left t o
+      unfolding arrived
+      arrive-seq-right k l e = rw (go, ne-eqb (node .operator) 1 h, ne-eqb (node .operator) 2 k, l) e
+
+-- ---- the turn
+pub turn-is : (s : Setting) (node : Node) (place : ℕ) (left right la ra m : List Occurrence) (findings : ℕ) (bytes : List ℕ) (t r : Turned) → m ≡ []
+    → t ≡ fold (arrived s node place true) la (record { left = left; right = right; emit = record { made = m; findings = findings; bytes = bytes; limit = numberOf None } })
+    → r ≡ fold (arrived s node place false) ra t → r ≡ nodeTurn s node place left right la ra findings bytes
+unfolding nodeTurn
+turn-is s node place left right la ra m findings bytes t r n e f = rw (← n, ← e) f
+
+-- ---- one operator's arrival, from what its calls ensure
+pub or-is : (s : Setting) (place : ℕ) (t : Turned) (o : Occurrence) (f : Emitting) → f ≡ emitted (s .room) (s .loggers) place (t .emit) o
+    → _≡_ {A = Turned} (record { left = t .left; right = t .right; emit = f }) (orArrived s place t o)
+unfolding orArrived
+or-is s place t o f e = ap (λ (x : Emitting). record { left = t .left; right = t .right; emit = x }) e
+
+pub seq-left-is : (t : Turned) (o : Occurrence) (m : Met) → m ≡ waited (t .left) (t .emit) o → _≡_ {A = Turned} (record { left = m .list; right = t .right; emit = m .emit }) (seqLeft t o)
+unfolding seqLeft
+seq-left-is t o m e = ap (λ (x : Met). record { left = x .list; right = t .right; emit = x .emit }) e
+
+pub seq-right-is : (s : Setting) (node : Node) (place : ℕ) (t : Turned) (o : Occurrence) (marks : List Bool) (m : Met) → marks ≡ seqCandidates (s .ratio) (t .left) o
+    → m ≡ metBy s node place (t .left) marks (t .emit) o → _≡_ {A = Turned} (record { left = m .list; right = t .right; emit = m .emit }) (seqRight s node place t o)
+unfolding seqRight
+seq-right-is s node place t o marks m c e =
+    ap (λ (x : Met). record { left = x .list; right = t .right; emit = x .emit }) (e ∙ ap (λ l. metBy s node place (t .left) l (t .emit) o) c)
+
+pub left-is : (t : Sides) (x : Sides) → t ≡ x → _≡_ {A = Turned} (record { left = t .own; right = t .other; emit = t .emit }) (leftSides x)
+left-is t x e = ap leftSides e
+
+pub right-is : (t : Sides) (x : Sides) → t ≡ x → _≡_ {A = Turned} (record { left = t .other; right = t .own; emit = t .emit }) (rightSides x)
+right-is t x e = ap rightSides e

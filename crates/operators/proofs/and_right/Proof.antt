@@ -1,0 +1,17 @@
+-- Its own side and the other.
+use Rattle.operators.proofs.Arrivals.{right-is}
+use borrow.Author.Needs.{needs}
+use Rattle.operators.proofs.and_right.Statement.{statement}
+use Rattle.operators.proofs.and_right.Tie as tie
+
+and-arrival-requires : tie.Need-and-arrival-requires
+and-arrival-requires c κs = search needs
+
+same-length : tie.Need-same-length
+same-length c = search needs
+
+returns : tie.Need-returns
+returns c = (right-is _ _ (c .before .before .before .before .before .and-arrival .ensures .0), c .before .before .before .before .before .and-arrival .ensures .1)
+
+pub and-right-spec : {M : Type 1} → statement M
+and-right-spec = tie.close (tie.spec and-arrival-requires same-length returns)
