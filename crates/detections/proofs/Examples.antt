@@ -2,6 +2,7 @@
 use mathlib.Core.Path.{_≡_, refl}
 use mathlib.Core.List.{List, [], _∷_, _++_}
 use Prim.Native.Nat.{ℕ}
+use lib.ListN.{length}
 use Rattle.sequences.specs.Range.{range}
 use Rattle.sequences.specs.Select.{filter, any, all}
 use Rattle.timestamps.specs.Composite.{members, tickOf, compositeOf}
@@ -39,6 +40,10 @@ bytes =
 D1-bytes : findingBytes D1 ≡ bytes
 unfolding findingBytes sectionBytes each bigEndian
 D1-bytes = refl
+
+D1-size : length (findingBytes D1) ≡ 20
+unfolding findingBytes sectionBytes each bigEndian
+D1-size = refl
 
 -- ---- read back, with bytes before it and after it
 D1-read : readFinding (7 ∷ bytes ++ (9 ∷ [])) 1 ≡ found D1 21

@@ -1,6 +1,6 @@
 -- The reader's sections and its whole: what each place of the code needs.
 use mathlib.Core.Path.{_≡_, refl, sym, ap, _∙_}
-use mathlib.Core.Bool.{Bool, true, false, _&&_}
+use mathlib.Core.Bool.{Bool, true, false, _&&_, and-true, and-false, and-assoc}
 use mathlib.Core.List.{List, [], _∷_, _++_, List·Memᴰ·head, List·Memᴰ·append-cases, List·Memᴰ·eq-of-singleton, Memᴰ·append-left, Memᴰ·append-right}
 use mathlib.Core.Logic.{⊎-elim, inl, inr}
 use Prim.Native.Nat.{ℕ, _+_, _-_, _≤_, _<_}
@@ -84,16 +84,8 @@ Least l least = (v : ℕ) → all (λ m. ltb m v) l ≡ leb least v
 
 all-snoc : (p : ℕ → Bool) (l : List ℕ) (n : ℕ) → all p (l ++ (n ∷ [])) ≡ (all p l && p n)
 unfolding all
-all-snoc p [] n = both (p n)
-  where
-    both : (b : Bool) → (b && true) ≡ b
-    both true = refl
-    both false = refl
-all-snoc p (a ∷ l) n = rw (all-snoc p l n) (three (p a) (all p l) (p n))
-  where
-    three : (a b c : Bool) → (a && (b && c)) ≡ ((a && b) && c)
-    three true b c = refl
-    three false b c = refl
+all-snoc p [] n = and-true (p n)
+all-snoc p (a ∷ l) n = rw (all-snoc p l n) (sym (and-assoc (p a) (all p l) (p n)))
 
 least-more : (l : List ℕ) (least n : ℕ) → Least l least → least ≤ n → Least (l ++ (n ∷ [])) (n + 1)
 least-more l least n h k v =
@@ -101,12 +93,8 @@ least-more l least n h k v =
     ∙ rw (h v, add-one)
     (⊎-elim
     (λ y. rw (y, le-leb least v (omega (arith, ltb-true n v y))))
-    (λ z. rw z (no (leb least v)))
+    (λ z. rw z (and-false (leb least v)))
     (either-way (ltb n v)))
-  where
-    no : (b : Bool) → (b && false) ≡ false
-    no true = refl
-    no false = refl
 
 event-piece : (b l : List ℕ) (at least : ℕ) → Least l least → piece (number 2) 1 (outside least 127 1) b at ≡ piece (number 2) 1 (eventSection .entry-fault l) b at
 event-piece b l at least h =

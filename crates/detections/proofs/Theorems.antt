@@ -203,6 +203,7 @@ module _ (b : List ℕ) (at : ℕ) where
       let (node, at₁, n, k) = then-got (piece (number 2) 1 (λ node. 0) b at) after-node f next (read-got b at f next h) in
       let (ss, at₂, s, m) = then-got (section stampSection b at₁) (after-stamps node) f next k in
       let (es, at₃, t, o) = then-got (section eventSection b at₂) (λ es at₃. got (record { node = node; stamps = ss; events = es }) at₃) f next m in
-      let g : record { node = node; stamps = ss; events = es } ≡ f = cc in
+      let g : Finding = record { node = node; stamps = ss; events = es } in
+      let e : g ≡ f = cc in
       let q : at₃ ≡ next = cc in
-      subst₂ Laid g q (parts-laid B node at₁ ss at₂ es at₃ n s t)
+      subst₂ Laid {x = g} e q (parts-laid B node at₁ ss at₂ es at₃ n s t)

@@ -127,3 +127,7 @@ beyond-wrote {l} {l′} {bs} {at} {r} {count} h k f w =
       few = omega (arith, w .next);
       rest = wrote-rest (omega arith) w;
     }
+
+-- the output: what is written, and then what was there
+pub beyond-whole : {l l′ : List ℕ} {at count′ at′ : ℕ} → Beyond l l′ at count′ at′ → l′ ≡ take at′ l′ ++ drop at′ l
+beyond-whole {l} {l′} {at′ = at′} b = sym (take-append-drop at′ l′) ∙ ap (λ x. take at′ l′ ++ x) (b .rest)
