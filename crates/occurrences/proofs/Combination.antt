@@ -1,7 +1,7 @@
--- The combination of parts: its order and repetition of parts do not matter, and it can be made one part at a time.
-use mathlib.Core.Path.{_≡_, refl, sym, ap, subst, _∙_}
-use mathlib.Core.Bool.{Bool, _||_}
-use mathlib.Core.List.{List, [], _∷_, _++_, flatMap, append-assoc, append-nil, List·Memᴰ·head, List·Memᴰ·tail, List·Memᴰ·cases-cons, List·Memᴰ·not-nil, Memᴰ·append-left, Memᴰ·append-right, List·Memᴰ·append-cases}
+-- The combination of parts: the order and repetition of parts do not matter, and it can be made one part at a time.
+use mathlib.Core.Path.{_≡_, refl, sym, ap, _∙_}
+use mathlib.Core.Bool.{_||_}
+use mathlib.Core.List.{List, [], _∷_, _++_, append-assoc, append-nil, List·Memᴰ·head, List·Memᴰ·tail, List·Memᴰ·cases-cons, List·Memᴰ·not-nil, Memᴰ·append-left, Memᴰ·append-right, List·Memᴰ·append-cases}
 use mathlib.Core.Logic.{⊎-elim}
 use Prim.Native.Nat.{ℕ}
 use Rattle.sequences.specs.Loops.{fold}
@@ -152,20 +152,3 @@ module _ (ratio : ℕ) where
   pub combination-latest : (ps : List Occurrence) → SameMembers (members (combinationOf ratio ps .latest)) (maxima (before ratio) (stampsOf ps))
   unfolding combinationOf
   combination-latest ps = members-joinOf ratio (stampsOf ps) (stamps-placeable ps)
-
-  -- parts that are joins of stamps combine to the join of all these stamps
-  module _ (stamps : Occurrence → List Timestamp) where
-    abbrev pub JoinOf : Occurrence → Type 0
-    JoinOf o = Placeable (stamps o) × (o .latest ≡ joinOf ratio (stamps o))
-
-    pub stamps-cover : (ps : List Occurrence) → ((o : Occurrence) → o ∈ ps → JoinOf o) → Covers (before ratio) (stampsOf ps) (flatMap stamps ps)
-    unfolding stampsOf flatMap
-    stamps-cover [] h = covers-self []
-    stamps-cover (o ∷ ps) h =
-        let (small, e) = h o (List·Memᴰ·head refl) in
-        covers-append (before ratio) (members (o .latest)) (stamps o) (stampsOf ps) (flatMap stamps ps)
-        (subst (λ c. Covers (before ratio) (members c) (stamps o)) (sym e) (joinOf-covers ratio (stamps o) small)) (stamps-cover ps (λ p m. h p (List·Memᴰ·tail m)))
-
-    pub combination-join : (ps : List Occurrence) → ((o : Occurrence) → o ∈ ps → JoinOf o) → combinationOf ratio ps .latest ≡ joinOf ratio (flatMap stamps ps)
-    unfolding combinationOf
-    combination-join ps h = joinOf-covered ratio (stampsOf ps) (flatMap stamps ps) (stamps-cover ps h)

@@ -1,5 +1,5 @@
 -- A file event as an occurrence.
-use mathlib.Core.Path.{_≡_, refl, sym, ap, _∙_}
+use mathlib.Core.Path.{_≡_, sym, ap, _∙_}
 use mathlib.Core.List.{[], _∷_}
 use Prim.Native.Nat.{ℕ, _<_}
 use Rattle.event_sets.specs.declared.EventSet.{EventSet}
@@ -7,7 +7,7 @@ use Rattle.event_sets.specs.Sets.{elements, markedWith, noEvents}
 use Rattle.event_sets.proofs.Members.{elements-one}
 use Rattle.timestamps.specs.declared.Timestamp.{Timestamp}
 use Rattle.timestamps.specs.declared.CompositeTimestamp.{CompositeTimestamp}
-use Rattle.timestamps.specs.Composite.{compositeOf, members, noTimestamps}
+use Rattle.timestamps.specs.Composite.{noTimestamps}
 use Rattle.timestamps.specs.Join.{joinOf}
 use Rattle.timestamps.specs.Steps.{addedTo}
 use Rattle.timestamps.proofs.Join.{added-alone, joinOf-one}

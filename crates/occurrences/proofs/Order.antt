@@ -5,7 +5,7 @@ use mathlib.Core.List.{List}
 use mathlib.Core.Logic.{⊎-elim}
 use Prim.Native.Nat.{ℕ}
 use Rattle.sequences.specs.Members.{_∈_}
-use Rattle.sequences.specs.Select.{any, all}
+use Rattle.sequences.specs.Select.{any}
 use Rattle.sequences.proofs.Booleans.{never-both, false-of-not-true}
 use Rattle.sequences.proofs.Select.{any-in, any-of, all-in, all-of}
 use Rattle.timestamps.specs.declared.Timestamp.{Timestamp}

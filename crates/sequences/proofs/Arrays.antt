@@ -20,8 +20,9 @@ module _ {A : Type 0} (N : ℕ) (items : List A) (n : ℕ) (full : length items 
   pub count-full : N ≤ n → N ≡ length (take n items)
   count-full h = let k : length items ≤ n = omega arith in rw (take-all n items k) (sym full)
 
-  pub held-at : (i : ℕ) (d : A) → i < length (take n items) → getD items i d ≡ getD (take n items) i d
-  held-at i d h = let k : i < n = omega (arith, length-take n items) in sym (getD-take n items i d k)
+-- what the array has at a place of the list is what the list has there
+pub held-at : {A : Type 0} (items : List A) (n i : ℕ) (d : A) → i < length (take n items) → getD items i d ≡ getD (take n items) i d
+held-at items n i d h = let k : i < n = omega (arith, length-take n items) in sym (getD-take n items i d k)
 
 -- ---- a loop that fills an array of N from the front with the list s, over z
 module _ {B : Type 0} (N : ℕ) (z : B) (s : List B) (i : ℕ) where

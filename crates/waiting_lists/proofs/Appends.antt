@@ -1,13 +1,12 @@
 -- Appends to a list of 16 places with its length beside it.
-use mathlib.Core.Path.{_≡_, refl, sym, ap, _∙_}
-use mathlib.Core.Bool.{Bool, true, false}
-use mathlib.Core.List.{List, [], _∷_, _++_, Sublistᴰ}
+use mathlib.Core.Path.{_≡_, sym}
+use mathlib.Core.Bool.{true, false}
+use mathlib.Core.List.{List, [], _∷_, _++_}
 use Prim.Native.Nat.{ℕ, _+_, _≤_, _<_}
 use native.Mathlib.Omega.{arith}
 use borrow.Author.Tests.{le-leb, lt-leb}
 use lib.Dec.{leb}
-use lib.ListN.{length, set, take, length-append}
-use Rattle.sequences.specs.Choice.{pick}
+use lib.ListN.{length, set, take}
 use Rattle.sequences.proofs.Arrays.{append-room, count-within, count-full}
 use Rattle.occurrences.specs.declared.Occurrence.{Occurrence}
 use Rattle.waiting_lists.specs.Waiting.{appendedTo, isFull}

@@ -1,7 +1,6 @@
 -- Document 01, "How an event is worked": waiting lists. A list holds at most 16 occurrences, in waiting order.
 use mathlib.Core.Bool.{Bool}
 use mathlib.Core.List.{List, [], _∷_, _++_}
-use Prim.Native.Nat.{ℕ}
 use lib.Dec.{leb}
 use lib.ListN.{length, take}
 use Rattle.sequences.specs.Choice.{pick}

@@ -1,0 +1,155 @@
+-- What a choice does, for waiting lists and marks of every length.
+use mathlib.Core.Path.{_≡_, refl, sym, ap, _∙_}
+use mathlib.Core.Bool.{Bool, true, false, not, _&&_}
+use mathlib.Core.List.{List, [], _∷_, _++_, map, zipWith, Sublistᴰ}
+use Prim.Native.Nat.{ℕ, zero, suc}
+use lib.ListN.{getD, length-map}
+use borrow.Author.Tests.{not-true}
+use Rattle.sequences.specs.Marks.{marked, padded, unmarked}
+use Rattle.sequences.specs.Members.{_∈_}
+use Rattle.sequences.specs.Select.{any, filter}
+use Rattle.sequences.proofs.Booleans.{and-left, and-right, false-of-not-true, never-both}
+use Rattle.sequences.proofs.Marks.{getD-padded, marked-and, marked-map, marked-order, marked-padded, unmarked-map, unmarked-order, unmarked-padded, unmarked-within, zip-maps, zip-padded, zip-test}
+use Rattle.sequences.proofs.Select.{any-append, filter-all, filter-nil}
+use Rattle.timestamps.specs.declared.Timestamp.{Timestamp}
+use Rattle.timestamps.specs.Composite.{members}
+use Rattle.timestamps.specs.Maxima.{maxima}
+use Rattle.occurrences.specs.declared.Occurrence.{Occurrence}
+use Rattle.occurrences.specs.Occurrences.{isBefore}
+use Rattle.occurrences.proofs.Order.{not-before-itself}
+use Rattle.contexts.specs.Choice.{andCandidates, chosen, removedOf, removes, seqCandidates, takenOf, takes}
+use Rattle.contexts.specs.Table.{Taken, latest, earliest, every, Removed, untaken, taken, all, Context, recent}
+
+-- ---- candidates
+pub seq-candidates : (ratio : ℕ) (waiting : List Occurrence) (o : Occurrence) → marked waiting (seqCandidates ratio waiting o) ≡ filter (λ w. isBefore ratio w o) waiting
+unfolding seqCandidates
+seq-candidates ratio waiting o = marked-padded 16 _ waiting ∙ marked-map (λ w. isBefore ratio w o) waiting
+
+pub and-candidates : (waiting : List Occurrence) → marked waiting (andCandidates waiting) ≡ waiting
+unfolding andCandidates
+and-candidates waiting = marked-padded 16 _ waiting ∙ marked-map (λ w. true) waiting ∙ filter-all (λ w. true) waiting (λ w m. refl)
+
+-- ---- those taken: the candidates that the rule takes, in waiting order
+pub taken-are : (t : Taken) (ratio : ℕ) (waiting : List Occurrence) (candidates : List Bool)
+    → marked waiting (takenOf t ratio waiting candidates) ≡ filter (takes t ratio (marked waiting candidates)) (marked waiting candidates)
+unfolding takenOf
+taken-are t ratio waiting candidates = marked-padded 16 _ waiting ∙ marked-and (takes t ratio (marked waiting candidates)) waiting candidates
+
+-- latest: the greatest of the candidates by the order of occurrences
+pub latest-are : (ratio : ℕ) (waiting : List Occurrence) (candidates : List Bool) → marked waiting (takenOf latest ratio waiting candidates) ≡ maxima (isBefore ratio) (marked waiting candidates)
+unfolding takes maxima
+latest-are ratio waiting candidates = taken-are latest ratio waiting candidates
+
+-- earliest: the greatest by that order turned round
+pub earliest-are : (ratio : ℕ) (waiting : List Occurrence) (candidates : List Bool) → marked waiting (takenOf earliest ratio waiting candidates) ≡ maxima (λ a b. isBefore ratio b a) (marked waiting candidates)
+unfolding takes maxima
+earliest-are ratio waiting candidates = taken-are earliest ratio waiting candidates
+
+pub every-are : (ratio : ℕ) (waiting : List Occurrence) (candidates : List Bool) → marked waiting (takenOf every ratio waiting candidates) ≡ marked waiting candidates
+unfolding takes
+every-are ratio waiting candidates = taken-are every ratio waiting candidates ∙ filter-all (λ w. true) (marked waiting candidates) (λ w m. refl)
+
+-- "no other candidate": with at least one stamp an occurrence is not before itself, so the others decide
+module _ (ratio : ℕ) (l m : List Occurrence) (w : Occurrence) {s : Timestamp} (some : s ∈ members (w .latest)) where
+  pub latest-others : takes latest ratio (l ++ w ∷ m) w ≡ not (any (λ c. isBefore ratio w c) (l ++ m))
+  unfolding takes any
+  latest-others =
+      let here : any (λ c. isBefore ratio w c) (w ∷ m) ≡ any (λ c. isBefore ratio w c) m = rw (not-before-itself ratio w some) in
+      rw (any-append (λ c. isBefore ratio w c) l (w ∷ m), any-append (λ c. isBefore ratio w c) l m, here)
+
+  pub earliest-others : takes earliest ratio (l ++ w ∷ m) w ≡ not (any (λ c. isBefore ratio c w) (l ++ m))
+  unfolding takes any
+  earliest-others =
+      let here : any (λ c. isBefore ratio c w) (w ∷ m) ≡ any (λ c. isBefore ratio c w) m = rw (not-before-itself ratio w some) in
+      rw (any-append (λ c. isBefore ratio c w) l (w ∷ m), any-append (λ c. isBefore ratio c w) l m, here)
+
+-- ---- place by place
+taken-place : (f : Occurrence → Bool) (l : List Occurrence) (m : List Bool) (k : ℕ) → getD (zipWith (λ w c. c && f w) l m) k false ≡ true → getD m k false ≡ true
+unfolding zipWith
+taken-place f [] m k e = absurd (never-both e refl)
+taken-place f (w ∷ l) [] k e = absurd (never-both e refl)
+taken-place f (w ∷ l) (c ∷ m) zero e = and-left c (f w) e
+taken-place f (w ∷ l) (c ∷ m) (suc k) e = taken-place f l m k e
+
+removed-place : (x : Removed) (m t : List Bool) (k : ℕ) → getD (zipWith (removes x) m t) k false ≡ true → removes x (getD m k false) (getD t k false) ≡ true
+unfolding zipWith
+removed-place x [] t k e = absurd (never-both e refl)
+removed-place x (c ∷ m) [] k e = absurd (never-both e refl)
+removed-place x (c ∷ m) (b ∷ t) zero e = e
+removed-place x (c ∷ m) (b ∷ t) (suc k) e = removed-place x m t k e
+
+module _ (ratio : ℕ) (waiting : List Occurrence) (candidates : List Bool) (k : ℕ) where
+  -- a taken place is a candidate
+  pub taken-candidate : (t : Taken) → getD (takenOf t ratio waiting candidates) k false ≡ true → getD candidates k false ≡ true
+  unfolding takenOf
+  taken-candidate t e = taken-place (takes t ratio (marked waiting candidates)) waiting candidates k (sym (getD-padded 16 _ k) ∙ e)
+
+  -- a removed place is a candidate
+  pub removed-candidate : (row : Context) → getD (chosen row ratio waiting candidates .removed) k false ≡ true → getD candidates k false ≡ true
+  unfolding chosen removedOf removes
+  removed-candidate row e = go (row .removes) (removed-place (row .removes) candidates (takenOf (row .takes) ratio waiting candidates) k e)
+    where
+      go : (x : Removed) → removes x (getD candidates k false) (getD (takenOf (row .takes) ratio waiting candidates) k false) ≡ true → getD candidates k false ≡ true
+      go untaken e = and-left _ _ e
+      go taken e = taken-candidate (row .takes) e
+      go all e = e
+
+  -- in recent no taken place is removed
+  pub recent-keeps-taken : getD (chosen recent ratio waiting candidates .taken) k false ≡ true → getD (chosen recent ratio waiting candidates .removed) k false ≡ false
+  unfolding chosen removedOf removes
+  recent-keeps-taken e = false-of-not-true _ (λ r.
+      never-both e (not-true _ (and-right (getD candidates k false) _ (removed-place untaken candidates (takenOf latest ratio waiting candidates) k r))))
+
+  -- and no place that is no candidate
+  pub recent-keeps-others : getD candidates k false ≡ false → getD (chosen recent ratio waiting candidates .removed) k false ≡ false
+  recent-keeps-others e = false-of-not-true _ (λ r. never-both (removed-candidate recent r) e)
+
+-- ---- without candidates nothing is taken or removed
+module _ (row : Context) (ratio : ℕ) (waiting : List Occurrence) (candidates : List Bool) (none : marked waiting candidates ≡ []) where
+  pub none-taken : marked waiting (chosen row ratio waiting candidates .taken) ≡ []
+  unfolding chosen
+  none-taken = taken-are (row .takes) ratio waiting candidates ∙ rw none (filter-nil _)
+
+  pub none-removed : unmarked waiting (chosen row ratio waiting candidates .removed) ≡ waiting
+  none-removed = unmarked-within waiting candidates _ (λ k. removed-candidate ratio waiting candidates k row) none
+
+-- ---- waiting order is kept
+module _ (row : Context) (ratio : ℕ) (waiting : List Occurrence) (candidates : List Bool) where
+  pub taken-order : Sublistᴰ (marked waiting (chosen row ratio waiting candidates .taken)) waiting
+  taken-order = marked-order waiting _
+
+  pub left-order : Sublistᴰ (unmarked waiting (chosen row ratio waiting candidates .removed)) waiting
+  left-order = unmarked-order waiting _
+
+-- ---- where a test says which are candidates, everything is said by tests
+-- a place that is no candidate and not taken stays
+nothing-removed : (x : Removed) → removes x false false ≡ false
+unfolding removes
+nothing-removed untaken = refl
+nothing-removed taken = refl
+nothing-removed all = refl
+
+module _ (row : Context) (ratio : ℕ) (p : Occurrence → Bool) (waiting : List Occurrence) where
+  abbrev isTaken : Occurrence → Bool
+  isTaken = takes (row .takes) ratio (filter p waiting)
+
+  abbrev marks : List Bool
+  marks = padded 16 (map p waiting)
+
+  pub tested-candidates : marked waiting marks ≡ filter p waiting
+  tested-candidates = marked-padded 16 (map p waiting) waiting ∙ marked-map p waiting
+
+  pub tested-taken : chosen row ratio waiting marks .taken ≡ padded 16 (map (λ w. p w && isTaken w) waiting)
+  unfolding chosen takenOf
+  tested-taken = ap (padded 16) (zip-test (λ w c. c && takes (row .takes) ratio (marked waiting marks) w) p 16 waiting ∙ rw tested-candidates)
+
+  pub tested-removed : chosen row ratio waiting marks .removed ≡ padded 16 (map (λ w. removes (row .removes) (p w) (p w && isTaken w)) waiting)
+  unfolding chosen removedOf
+  tested-removed =
+      ap (removedOf (row .removes) marks) tested-taken
+      ∙ zip-padded (removes (row .removes)) (nothing-removed (row .removes)) 16 (map p waiting) (map (λ w. p w && isTaken w) waiting) (length-map waiting p ∙ sym (length-map waiting (λ w. p w && isTaken w)))
+      ∙ ap (padded 16) (zip-maps (removes (row .removes)) p (λ w. p w && isTaken w) waiting)
+
+  -- what is left
+  pub tested-left : unmarked waiting (chosen row ratio waiting marks .removed) ≡ filter (λ w. not (removes (row .removes) (p w) (p w && isTaken w))) waiting
+  tested-left = ap (unmarked waiting) tested-removed ∙ unmarked-padded 16 _ waiting ∙ unmarked-map (λ w. removes (row .removes) (p w) (p w && isTaken w)) waiting

@@ -1,0 +1,47 @@
+-- The table of codes says what document 01's table says.
+use mathlib.Core.Path.{_≡_, refl, sym, ap, _∙_}
+use mathlib.Core.List.{List, [], _∷_, map}
+use Prim.Native.Nat.{ℕ, _-_, _≤_, _<_}
+use native.Mathlib.Omega.{arith}
+use lib.ListN.{getD, List·getD-eq-default}
+use Rattle.sequences.proofs.Arrays.{getD-map-in}
+use Rattle.contexts.specs.declared.Row.{Row}
+use Rattle.contexts.specs.Table.{recent, table, rowOf, takesOf, findsOf, removesOf, contextOf}
+
+-- contexts 1 to 4 are the four rows, in order
+pub contexts-are : map rowOf (1 ∷ 2 ∷ 3 ∷ 4 ∷ []) ≡ table
+unfolding rowOf
+contexts-are = refl
+
+-- the codes of the code's table
+abbrev codes : ℕ → ℕ → ℕ → Row
+codes t f r = record { taken = t; findings = f; removed = r }
+
+abbrev rows : List Row
+rows = codes 0 0 0 ∷ codes 1 0 1 ∷ codes 2 0 2 ∷ codes 2 1 2 ∷ []
+
+-- what the code's table is read as past its end
+abbrev pub noRow : Row
+noRow = codes 0 0 0
+
+-- each row says what document 01's row says
+pub rows-say : map contextOf rows ≡ table
+unfolding contextOf takesOf findsOf removesOf
+rows-say = refl
+
+-- so a row of codes says what the row at its place says
+pub row-at : (context k : ℕ) (d : Row) → (k < 4) × (getD table k recent ≡ rowOf context) → contextOf (getD rows k d) ≡ rowOf context
+row-at context k d (h, e) = sym (getD-map-in contextOf rows k d recent h) ∙ ap (λ t. getD t k recent) rows-say ∙ e
+
+-- ---- the place of a context's row
+pub place-first : (context : ℕ) → context < 2 → (0 < 4) × (getD table 0 recent ≡ rowOf context)
+unfolding rowOf
+place-first context h = let e : context - 1 ≡ 0 = omega arith in (omega arith, rw e)
+
+pub place-in : (context : ℕ) → 2 ≤ context → context < 5 → (context - 1 < 4) × (getD table (context - 1) recent ≡ rowOf context)
+unfolding rowOf
+place-in context h k = (omega arith, refl)
+
+pub place-beyond : (context : ℕ) → 5 ≤ context → (0 < 4) × (getD table 0 recent ≡ rowOf context)
+unfolding rowOf
+place-beyond context h = let past : 4 ≤ context - 1 = omega arith in (omega arith, sym (List·getD-eq-default table recent past))

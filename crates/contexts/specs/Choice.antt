@@ -1,0 +1,47 @@
+-- Document 01, "How an event is worked": candidates, and which of them a context takes and removes. Marks stand beside the waiting occurrences, one for each of 16 places.
+use mathlib.Core.Bool.{Bool, true, not, _&&_}
+use mathlib.Core.List.{List, map, zipWith}
+use Prim.Native.Nat.{ℕ}
+use Rattle.sequences.specs.Marks.{marked, padded}
+use Rattle.sequences.specs.Select.{any}
+use Rattle.occurrences.specs.declared.Occurrence.{Occurrence}
+use Rattle.occurrences.specs.Occurrences.{isBefore}
+use Rattle.contexts.specs.declared.Choice.{Choice}
+use Rattle.contexts.specs.Table.{Taken, latest, earliest, every, Removed, untaken, taken, all, Context}
+
+-- SEQ: the candidates are the waiting occurrences whose stamp is before the arrival's
+unfoldable pub seqCandidates : ℕ → List Occurrence → Occurrence → List Bool
+seqCandidates ratio waiting o = padded 16 (map (λ w. isBefore ratio w o) waiting)
+
+-- AND: the candidates are all that wait on the other side
+unfoldable pub andCandidates : List Occurrence → List Bool
+andCandidates waiting = padded 16 (map (λ w. true) waiting)
+
+-- a candidate is taken: it is before no other candidate; no other candidate is before it; always.
+-- "Other" needs no word: with at least one stamp an occurrence is not before itself (proofs/Choices.antt, latest-others, earliest-others)
+unfoldable pub takes : Taken → ℕ → List Occurrence → Occurrence → Bool
+takes latest ratio candidates w = not (any (λ c. isBefore ratio w c) candidates)
+takes earliest ratio candidates w = not (any (λ c. isBefore ratio c w) candidates)
+takes every ratio candidates w = true
+
+-- the marks of those taken
+unfoldable pub takenOf : Taken → ℕ → List Occurrence → List Bool → List Bool
+takenOf t ratio waiting candidates = padded 16 (zipWith (λ w c. c && takes t ratio (marked waiting candidates) w) waiting candidates)
+
+-- a place is removed, by whether it is a candidate and is taken: a candidate not taken; one taken; every candidate
+unfoldable pub removes : Removed → Bool → Bool → Bool
+removes untaken candidate isTaken = candidate && not isTaken
+removes taken candidate isTaken = isTaken
+removes all candidate isTaken = candidate
+
+-- the marks of those removed
+unfoldable pub removedOf : Removed → List Bool → List Bool → List Bool
+removedOf x candidates marks = zipWith (removes x) candidates marks
+
+-- the choice that a row of the table makes
+unfoldable pub chosen : Context → ℕ → List Occurrence → List Bool → Choice
+chosen row ratio waiting candidates = record {
+  candidates = candidates;
+  taken = takenOf (row .takes) ratio waiting candidates;
+  removed = removedOf (row .removes) candidates (takenOf (row .takes) ratio waiting candidates);
+}

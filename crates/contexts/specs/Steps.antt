@@ -1,0 +1,12 @@
+-- What the functions compute step by step. Readers of the promises need none of these: the laws tie each to the definitions beside this file.
+use mathlib.Core.Bool.{Bool, false}
+use Prim.Native.Nat.{ℕ}
+use Rattle.occurrences.specs.declared.Occurrence.{Occurrence}
+use Rattle.occurrences.specs.Occurrences.{isBefore}
+use Rattle.contexts.specs.Table.{Taken, latest, earliest, every}
+
+-- candidate c keeps w from being taken
+unfoldable pub barsOf : Taken → ℕ → Occurrence → Occurrence → Bool
+barsOf latest ratio w c = isBefore ratio w c
+barsOf earliest ratio w c = isBefore ratio c w
+barsOf every ratio w c = false
