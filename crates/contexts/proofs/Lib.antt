@@ -1,3 +1,4 @@
 pub mod Choices
+pub mod Findings
 pub mod Steps
 pub mod Table

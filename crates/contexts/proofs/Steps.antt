@@ -1,26 +1,31 @@
 -- What each function's steps come to.
 use mathlib.Core.Path.{_≡_, refl, sym, ap, _∙_}
 use mathlib.Core.Bool.{Bool, true, false, not, _&&_}
-use mathlib.Core.List.{List, [], _∷_, map, zipWith}
+use mathlib.Core.List.{List, [], _∷_, _++_, map, zipWith}
 use Prim.Native.Nat.{ℕ, _+_, _≤_, _<_}
 use native.Mathlib.Omega.{arith}
 use borrow.Author.Tests.{eq-eqb, ne-eqb, not-true, not-false}
 use lib.ListN.{length, drop, getD, replicate, set, take, getD-replicate, length-map, length-replicate}
-use Rattle.sequences.specs.Marks.{marked, padded}
+use Rattle.sequences.specs.Choice.{pick}
+use Rattle.sequences.specs.Loops.{fold}
+use Rattle.sequences.specs.Marks.{firstMark, marked, padded}
 use Rattle.sequences.specs.Select.{any}
 use Rattle.sequences.proofs.Arrays.{getD-map-in, getD-zip, length-zip}
-use Rattle.sequences.proofs.Marks.{any-marked-no, any-marked-yes, padded-end, padded-full, padded-turn}
+use Rattle.sequences.proofs.Marks.{any-marked-no, any-marked-yes, fold-marked, map-marked, marked-none, marked-some, padded-end, padded-full, padded-turn}
 use Rattle.sequences.proofs.Select.{any-none}
 use Rattle.occurrences.specs.declared.Occurrence.{Occurrence}
+use Rattle.occurrences.specs.Combination.{combinedOf}
 use Rattle.occurrences.specs.Occurrences.{blank, isBefore}
+use Rattle.occurrences.proofs.Combination.{combination-fold}
 use Rattle.waiting_lists.specs.declared.WaitingList.{WaitingList}
 use Rattle.waiting_lists.specs.Waiting.{held}
 use Rattle.waiting_lists.proofs.Places.{waiting-at}
 use Rattle.contexts.specs.declared.Choice.{Choice}
 use Rattle.contexts.specs.declared.Row.{Row}
 use Rattle.contexts.specs.Choice.{andCandidates, chosen, removedOf, removes, takenOf, takes}
+use Rattle.contexts.specs.Made.{madeOf}
 use Rattle.contexts.specs.Steps.{barsOf}
-use Rattle.contexts.specs.Table.{Taken, latest, earliest, every, untaken, taken, all, Context, takesOf, removesOf, contextOf}
+use Rattle.contexts.specs.Table.{Taken, latest, earliest, every, Findings, each, together, untaken, taken, all, Context, rowOf, takesOf, findsOf, removesOf, contextOf}
 
 -- ---- codes
 module _ (code : ℕ) where
@@ -47,6 +52,14 @@ module _ (code : ℕ) where
   pub code-all : (code ≡ 0 → ⊥) → (code ≡ 1 → ⊥) → removesOf code ≡ all
   unfolding removesOf
   code-all n o = rw (ne-eqb code 0 n, ne-eqb code 1 o)
+
+  pub code-each : code ≡ 0 → findsOf code ≡ each
+  unfolding findsOf
+  code-each e = rw (eq-eqb code 0 e)
+
+  pub code-together : (code ≡ 0 → ⊥) → findsOf code ≡ together
+  unfolding findsOf
+  code-together n = rw (ne-eqb code 0 n)
 
 -- ---- one candidate against another
 -- what is no candidate does nothing
@@ -110,6 +123,16 @@ module _ (list : WaitingList) (m : List Bool) (i : ℕ) (in-l : i < length (held
     pub not-here : r ≡ false → any p (marked (drop i (held list)) (drop i m)) ≡ any p (marked (drop (i + 1) (held list)) (drop (i + 1) m))
     not-here e = any-marked-no (held list) m i blank in-l in-m p (told-here ∙ e)
 
+  pub combined-here : {S : Type 0} (f : S → Occurrence → S) (s r : S) → r ≡ pick (getD m i false) (f s (getD (list .items) i blank)) s
+      → fold f (marked (drop (i + 1) (held list)) (drop (i + 1) m)) r ≡ fold f (marked (drop i (held list)) (drop i m)) s
+  combined-here f s r e =
+      ap (fold f (marked (drop (i + 1) (held list)) (drop (i + 1) m))) (e ∙ ap (λ w. pick (getD m i false) (f s w) s) (waiting-at list i in-l))
+      ∙ fold-marked (held list) m i blank in-l in-m f s
+
+  pub made-here : (f : Occurrence → Occurrence) (now : List Occurrence) (k : ℕ) (v : Occurrence) → getD m i false ≡ true → k < length now → v ≡ f (getD (list .items) i blank)
+      → take (k + 1) (set now k v) ++ map f (marked (drop (i + 1) (held list)) (drop (i + 1) m)) ≡ take k now ++ map f (marked (drop i (held list)) (drop i m))
+  made-here f now k v y h e = map-marked (held list) m i blank in-l in-m f now k v y h (e ∙ ap f (waiting-at list i in-l))
+
 -- as many marks as wait
 pub all-marks : (n : ℕ) (waiting : List Occurrence) → n ≡ length waiting → padded 16 (replicate n true) ≡ andCandidates waiting
 unfolding andCandidates
@@ -160,3 +183,20 @@ pub chosen-is : (ratio : ℕ) (x : Context) (row : Row) (waiting : List Occurren
     → _≡_ {A = Choice} (record { candidates = candidates; taken = t; removed = r }) (chosen x ratio waiting candidates)
 unfolding chosen contextOf
 chosen-is ratio x row waiting candidates t r e f g = rw (← e) (λ i. record { candidates = candidates; taken = f i; removed = (g ∙ ap (removedOf (removesOf (row .removed)) candidates) f) i })
+
+-- ---- what is made
+module _ (ratio : ℕ) (o all : Occurrence) (waiting : List Occurrence) (m : List Bool) (first n : ℕ) (at : first ≡ firstMark m) (many : n ≡ length waiting) where
+  pub together-some : n ≤ 16 → length m ≡ 16 → all ≡ fold (combinedOf ratio) (marked waiting m) o → first < n → all ∷ [] ≡ madeOf together ratio (marked waiting m) o
+  unfolding madeOf
+  together-some few long e h =
+      let (w, rest, f) = marked-some waiting m (omega arith) (omega arith) in
+      rw f (ap (λ x. x ∷ []) (e ∙ ap (λ l. fold (combinedOf ratio) l o) f ∙ combination-fold ratio o w rest))
+
+  pub together-none : n ≤ first → [] ≡ madeOf together ratio (marked waiting m) o
+  unfolding madeOf
+  together-none h = let f : marked waiting m ≡ [] = marked-none waiting m (omega arith) in rw f
+
+pub make-is : (context ratio : ℕ) (row : Row) (those : List Occurrence) (o : Occurrence) (made : List Occurrence) (x : Findings) → contextOf row ≡ rowOf context
+    → findsOf (row .findings) ≡ x → made ≡ madeOf x ratio those o → made ≡ madeOf (rowOf context .finds) ratio those o
+unfolding contextOf
+make-is context ratio row those o made x e f g = g ∙ ap (λ y. madeOf y ratio those o) (sym f ∙ ap (λ s. s .finds) e)

@@ -1,3 +1,4 @@
 pub mod Choice
+pub mod Made
 pub mod Steps
 pub mod Table

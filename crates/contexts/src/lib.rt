@@ -1,16 +1,21 @@
-// What each context takes and removes: document 01's table of four rows, and the choice.
+// What each context takes, makes and removes: document 01's table of four rows, the choice, and what is made of it.
 use occurrences::Occurrence;
 use waiting_lists::WaitingList;
 ghost use mathlib.Core.Bool.{_&&_};
+ghost use mathlib.Core.List.{map};
 ghost use mathlib.Core.Path.{_≡_};
-ghost use Prim.Native.Nat.{_<_};
-ghost use lib.ListN.{getD};
+ghost use Prim.Native.Nat.{_<_, _≤_};
+ghost use lib.ListN.{getD, length};
+ghost use Rattle.sequences.specs.Choice.{pick};
+ghost use Rattle.sequences.specs.Loops.{fold};
 ghost use Rattle.sequences.specs.Marks.{marked};
 ghost use Rattle.sequences.specs.Select.{any};
+ghost use Rattle.occurrences.specs.Combination.{combinedOf};
 ghost use Rattle.waiting_lists.specs.Waiting.{held};
 ghost use Rattle.contexts.specs.Choice.{andCandidates, chosen, removedOf, removes, seqCandidates, takenOf, takes};
+ghost use Rattle.contexts.specs.Made.{madeIn, madeOf};
 ghost use Rattle.contexts.specs.Steps.{barsOf};
-ghost use Rattle.contexts.specs.Table.{recent, removesOf, rowOf, contextOf, table, takesOf};
+ghost use Rattle.contexts.specs.Table.{recent, removesOf, rowOf, contextOf, table, takesOf, together as allTogether};
 
 // ---- the table
 
@@ -232,5 +237,99 @@ pub fn choose(context: u64, list: WaitingList, candidates: [bool; 16], ratio: u6
         candidates: candidates,
         taken: taken,
         removed: removed,
+    }
+}
+
+// ---- what is made of it
+
+// The occurrences that one arrival makes, in order.
+pub struct Made {
+    pub items: [Occurrence; 16],
+    pub len: usize,
+}
+
+// How many were made.
+pub fn count_made(made: Made) -> usize
+    ensures { λ r. ⌜ (r ≡ length (madeIn made)) × (r ≤ 16) ⌝ }
+{
+    let n = made.len;
+    if 16 < n { 16 } else { n }
+}
+
+// One for each taken, in waiting order.
+fn each_combined(list: WaitingList, taken: [bool; 16], o: Occurrence, ratio: u64) -> Made
+    ensures { λ r. ⌜ madeIn r ≡ map (λ w. combinedOf ratio w o) (marked (held list) taken) ⌝ }
+{
+    let n = waiting_lists::count(list);
+    let nothing = Occurrence::none();
+    let mut items = [nothing; 16];
+    let mut k: usize = 0;
+    let mut i: usize = 0;
+    while i < n {
+        let next = i + 1;
+        if taken[i] {
+            let w = list.items[i];
+            items[k] = w.combined(o, ratio);
+            k = k + 1;
+        }
+        i = next;
+    }
+    Made {
+        items: items,
+        len: k,
+    }
+}
+
+// The arrival combined with w, where that is taken.
+fn combined_if(mark: bool, o: Occurrence, w: Occurrence, ratio: u64) -> Occurrence
+    ensures { λ r. ⌜ r ≡ pick mark (combinedOf ratio o w) o ⌝ }
+{
+    if mark { o.combined(w, ratio) } else { o }
+}
+
+// The arrival combined with all taken, in waiting order.
+fn all_combined(list: WaitingList, taken: [bool; 16], o: Occurrence, ratio: u64) -> Occurrence
+    ensures { λ r. ⌜ r ≡ fold (combinedOf ratio) (marked (held list) taken) o ⌝ }
+{
+    let n = waiting_lists::count(list);
+    let mut all = o;
+    let mut i: usize = 0;
+    while i < n {
+        let w = list.items[i];
+        all = combined_if(taken[i], all, w, ratio);
+        i = i + 1;
+    }
+    all
+}
+
+// One for all together, if any is taken.
+fn together(list: WaitingList, taken: [bool; 16], o: Occurrence, ratio: u64) -> Made
+    ensures { λ r. ⌜ madeIn r ≡ madeOf allTogether ratio (marked (held list) taken) o ⌝ }
+{
+    let first = waiting_lists::first_marked(taken);
+    let n = waiting_lists::count(list);
+    let all = all_combined(list, taken, o, ratio);
+    if first < n {
+        Made {
+            items: [all; 16],
+            len: 1,
+        }
+    } else {
+        Made {
+            items: [all; 16],
+            len: 0,
+        }
+    }
+}
+
+// What an arrival makes of those taken.
+pub fn make(context: u64, list: WaitingList, taken: [bool; 16], o: Occurrence, ratio: u64) -> Made
+    ensures { λ r. ⌜ madeIn r ≡ madeOf (rowOf context .finds) ratio (marked (held list) taken) o ⌝ }
+{
+    let row = row_of(context);
+    if row.findings == Row::EACH {
+        each_combined(list, taken, o, ratio)
+    } else {
+        together(list, taken, o, ratio)
     }
 }
