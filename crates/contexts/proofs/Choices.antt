@@ -18,7 +18,7 @@ use Rattle.occurrences.specs.declared.Occurrence.{Occurrence}
 use Rattle.occurrences.specs.Occurrences.{isBefore}
 use Rattle.occurrences.proofs.Order.{not-before-itself}
 use Rattle.contexts.specs.Choice.{andCandidates, chosen, removedOf, removes, seqCandidates, takenOf, takes}
-use Rattle.contexts.specs.Table.{Taken, latest, earliest, every, Removed, untaken, taken, all, Says, recent}
+use Rattle.contexts.specs.Table.{Taken, latest, earliest, every, Removed, untaken, taken, all, Context, recent}
 
 -- ---- candidates
 pub seq-candidates : (ratio : ℕ) (waiting : List Occurrence) (o : Occurrence) → marked waiting (seqCandidates ratio waiting o) ≡ filter (λ w. isBefore ratio w o) waiting
@@ -85,7 +85,7 @@ module _ (ratio : ℕ) (waiting : List Occurrence) (candidates : List Bool) (k :
   taken-candidate t e = taken-place (takes t ratio (marked waiting candidates)) waiting candidates k (sym (getD-padded 16 _ k) ∙ e)
 
   -- a removed place is a candidate
-  pub removed-candidate : (row : Says) → getD (chosen row ratio waiting candidates .removed) k false ≡ true → getD candidates k false ≡ true
+  pub removed-candidate : (row : Context) → getD (chosen row ratio waiting candidates .removed) k false ≡ true → getD candidates k false ≡ true
   unfolding chosen removedOf removes
   removed-candidate row e = go (row .removes) (removed-place (row .removes) candidates (takenOf (row .takes) ratio waiting candidates) k e)
     where
@@ -105,7 +105,7 @@ module _ (ratio : ℕ) (waiting : List Occurrence) (candidates : List Bool) (k :
   recent-keeps-others e = false-of-not-true _ (λ r. never-both (removed-candidate recent r) e)
 
 -- ---- without candidates nothing is taken or removed
-module _ (row : Says) (ratio : ℕ) (waiting : List Occurrence) (candidates : List Bool) (none : marked waiting candidates ≡ []) where
+module _ (row : Context) (ratio : ℕ) (waiting : List Occurrence) (candidates : List Bool) (none : marked waiting candidates ≡ []) where
   pub none-taken : marked waiting (chosen row ratio waiting candidates .taken) ≡ []
   unfolding chosen
   none-taken = taken-are (row .takes) ratio waiting candidates ∙ rw none (filter-nil _)
@@ -114,7 +114,7 @@ module _ (row : Says) (ratio : ℕ) (waiting : List Occurrence) (candidates : Li
   none-removed = unmarked-within waiting candidates _ (λ k. removed-candidate ratio waiting candidates k row) none
 
 -- ---- waiting order is kept
-module _ (row : Says) (ratio : ℕ) (waiting : List Occurrence) (candidates : List Bool) where
+module _ (row : Context) (ratio : ℕ) (waiting : List Occurrence) (candidates : List Bool) where
   pub taken-order : Sublistᴰ (marked waiting (chosen row ratio waiting candidates .taken)) waiting
   taken-order = marked-order waiting _
 
@@ -129,7 +129,7 @@ nothing-removed untaken = refl
 nothing-removed taken = refl
 nothing-removed all = refl
 
-module _ (row : Says) (ratio : ℕ) (p : Occurrence → Bool) (waiting : List Occurrence) where
+module _ (row : Context) (ratio : ℕ) (p : Occurrence → Bool) (waiting : List Occurrence) where
   abbrev isTaken : Occurrence → Bool
   isTaken = takes (row .takes) ratio (filter p waiting)
 

@@ -16,7 +16,7 @@ use Rattle.occurrences.proofs.Combination.{combination-same, combination-two}
 use Rattle.contexts.specs.declared.Made.{Made}
 use Rattle.contexts.specs.Choice.{chosen}
 use Rattle.contexts.specs.Made.{madeIn, madeOf}
-use Rattle.contexts.specs.Table.{Findings, each, together, Says}
+use Rattle.contexts.specs.Table.{Findings, each, together, Context}
 use Rattle.contexts.proofs.Choices.{none-taken}
 
 -- of nothing nothing is made
@@ -26,7 +26,7 @@ made-none each ratio o = refl
 made-none together ratio o = refl
 
 -- without candidates nothing is made
-pub none-made : (row : Says) (ratio : ℕ) (waiting : List Occurrence) (candidates : List Bool) (o : Occurrence) → marked waiting candidates ≡ []
+pub none-made : (row : Context) (ratio : ℕ) (waiting : List Occurrence) (candidates : List Bool) (o : Occurrence) → marked waiting candidates ≡ []
     → madeOf (row .finds) ratio (marked waiting (chosen row ratio waiting candidates .taken)) o ≡ []
 none-made row ratio waiting candidates o none = ap (λ l. madeOf (row .finds) ratio l o) (none-taken row ratio waiting candidates none) ∙ made-none (row .finds) ratio o
 

@@ -25,7 +25,7 @@ use Rattle.contexts.specs.declared.Row.{Row}
 use Rattle.contexts.specs.Choice.{andCandidates, chosen, removedOf, removes, takenOf, takes}
 use Rattle.contexts.specs.Made.{madeOf}
 use Rattle.contexts.specs.Steps.{barsOf}
-use Rattle.contexts.specs.Table.{Taken, latest, earliest, every, Findings, each, together, untaken, taken, all, Says, rowOf, takesOf, findsOf, removesOf, saysOf}
+use Rattle.contexts.specs.Table.{Taken, latest, earliest, every, Findings, each, together, untaken, taken, all, Context, rowOf, takesOf, findsOf, removesOf, contextOf}
 
 -- ---- codes
 module _ (code : ℕ) where
@@ -178,11 +178,11 @@ module _ (code : ℕ) (c t r : Bool) where
   unfolding removes
   removed-all n o f = rw (code-all code n o) f
 
-pub chosen-is : (ratio : ℕ) (says : Says) (row : Row) (waiting : List Occurrence) (candidates t r : List Bool) → saysOf row ≡ says
+pub chosen-is : (ratio : ℕ) (x : Context) (row : Row) (waiting : List Occurrence) (candidates t r : List Bool) → contextOf row ≡ x
     → t ≡ takenOf (takesOf (row .taken)) ratio waiting candidates → r ≡ removedOf (removesOf (row .removed)) candidates t
-    → _≡_ {A = Choice} (record { candidates = candidates; taken = t; removed = r }) (chosen says ratio waiting candidates)
-unfolding chosen saysOf
-chosen-is ratio says row waiting candidates t r e f g = rw (← e) (λ i. record { candidates = candidates; taken = f i; removed = (g ∙ ap (removedOf (removesOf (row .removed)) candidates) f) i })
+    → _≡_ {A = Choice} (record { candidates = candidates; taken = t; removed = r }) (chosen x ratio waiting candidates)
+unfolding chosen contextOf
+chosen-is ratio x row waiting candidates t r e f g = rw (← e) (λ i. record { candidates = candidates; taken = f i; removed = (g ∙ ap (removedOf (removesOf (row .removed)) candidates) f) i })
 
 -- ---- what is made
 module _ (ratio : ℕ) (o all : Occurrence) (waiting : List Occurrence) (m : List Bool) (first n : ℕ) (at : first ≡ firstMark m) (many : n ≡ length waiting) where
@@ -196,7 +196,7 @@ module _ (ratio : ℕ) (o all : Occurrence) (waiting : List Occurrence) (m : Lis
   unfolding madeOf
   together-none h = let f : marked waiting m ≡ [] = marked-none waiting m (omega arith) in rw f
 
-pub make-is : (context ratio : ℕ) (row : Row) (chosen : List Occurrence) (o : Occurrence) (made : List Occurrence) (x : Findings) → saysOf row ≡ rowOf context
-    → findsOf (row .findings) ≡ x → made ≡ madeOf x ratio chosen o → made ≡ madeOf (rowOf context .finds) ratio chosen o
-unfolding saysOf
-make-is context ratio row chosen o made x e f g = g ∙ ap (λ y. madeOf y ratio chosen o) (sym f ∙ ap (λ s. s .finds) e)
+pub make-is : (context ratio : ℕ) (row : Row) (those : List Occurrence) (o : Occurrence) (made : List Occurrence) (x : Findings) → contextOf row ≡ rowOf context
+    → findsOf (row .findings) ≡ x → made ≡ madeOf x ratio those o → made ≡ madeOf (rowOf context .finds) ratio those o
+unfolding contextOf
+make-is context ratio row those o made x e f g = g ∙ ap (λ y. madeOf y ratio those o) (sym f ∙ ap (λ s. s .finds) e)

@@ -6,7 +6,7 @@ use native.Mathlib.Omega.{arith}
 use lib.ListN.{getD, List·getD-eq-default}
 use Rattle.sequences.proofs.Arrays.{getD-map-in}
 use Rattle.contexts.specs.declared.Row.{Row}
-use Rattle.contexts.specs.Table.{recent, table, rowOf, takesOf, findsOf, removesOf, saysOf}
+use Rattle.contexts.specs.Table.{recent, table, rowOf, takesOf, findsOf, removesOf, contextOf}
 
 -- contexts 1 to 4 are the four rows, in order
 pub contexts-are : map rowOf (1 ∷ 2 ∷ 3 ∷ 4 ∷ []) ≡ table
@@ -25,13 +25,13 @@ abbrev pub noRow : Row
 noRow = codes 0 0 0
 
 -- each row says what document 01's row says
-pub rows-say : map saysOf rows ≡ table
-unfolding saysOf takesOf findsOf removesOf
+pub rows-say : map contextOf rows ≡ table
+unfolding contextOf takesOf findsOf removesOf
 rows-say = refl
 
 -- so a row of codes says what the row at its place says
-pub row-at : (context k : ℕ) (d : Row) → (k < 4) × (getD table k recent ≡ rowOf context) → saysOf (getD rows k d) ≡ rowOf context
-row-at context k d (h, e) = sym (getD-map-in saysOf rows k d recent h) ∙ ap (λ t. getD t k recent) rows-say ∙ e
+pub row-at : (context k : ℕ) (d : Row) → (k < 4) × (getD table k recent ≡ rowOf context) → contextOf (getD rows k d) ≡ rowOf context
+row-at context k d (h, e) = sym (getD-map-in contextOf rows k d recent h) ∙ ap (λ t. getD t k recent) rows-say ∙ e
 
 -- ---- the place of a context's row
 pub place-first : (context : ℕ) → context < 2 → (0 < 4) × (getD table 0 recent ≡ rowOf context)

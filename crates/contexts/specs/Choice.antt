@@ -7,7 +7,7 @@ use Rattle.sequences.specs.Select.{any}
 use Rattle.occurrences.specs.declared.Occurrence.{Occurrence}
 use Rattle.occurrences.specs.Occurrences.{isBefore}
 use Rattle.contexts.specs.declared.Choice.{Choice}
-use Rattle.contexts.specs.Table.{Taken, latest, earliest, every, Removed, untaken, taken, all, Says}
+use Rattle.contexts.specs.Table.{Taken, latest, earliest, every, Removed, untaken, taken, all, Context}
 
 -- SEQ: the candidates are the waiting occurrences whose stamp is before the arrival's
 unfoldable pub seqCandidates : ℕ → List Occurrence → Occurrence → List Bool
@@ -18,7 +18,7 @@ unfoldable pub andCandidates : List Occurrence → List Bool
 andCandidates waiting = padded 16 (map (λ w. true) waiting)
 
 -- a candidate is taken: it is before no other candidate; no other candidate is before it; always.
--- "Other" needs no word: an occurrence is not before itself (occurrences/proofs/Order.antt, not-before-itself)
+-- "Other" needs no word: with at least one stamp an occurrence is not before itself (proofs/Choices.antt, latest-others, earliest-others)
 unfoldable pub takes : Taken → ℕ → List Occurrence → Occurrence → Bool
 takes latest ratio candidates w = not (any (λ c. isBefore ratio w c) candidates)
 takes earliest ratio candidates w = not (any (λ c. isBefore ratio c w) candidates)
@@ -39,7 +39,7 @@ unfoldable pub removedOf : Removed → List Bool → List Bool → List Bool
 removedOf x candidates marks = zipWith (removes x) candidates marks
 
 -- the choice that a row of the table makes
-unfoldable pub chosen : Says → ℕ → List Occurrence → List Bool → Choice
+unfoldable pub chosen : Context → ℕ → List Occurrence → List Bool → Choice
 chosen row ratio waiting candidates = record {
   candidates = candidates;
   taken = takenOf (row .takes) ratio waiting candidates;

@@ -9,9 +9,9 @@ use Rattle.contexts.specs.Table.{Findings, each, together}
 
 -- one occurrence for each taken, in waiting order, or one for all together, each combined with the arrival
 unfoldable pub madeOf : Findings → ℕ → List Occurrence → Occurrence → List Occurrence
-madeOf each ratio chosen o = map (λ w. combinedOf ratio w o) chosen
+madeOf each ratio those o = map (λ w. combinedOf ratio w o) those
 madeOf together ratio [] o = []
-madeOf together ratio (w ∷ chosen) o = combinationOf ratio (o ∷ w ∷ chosen) ∷ []
+madeOf together ratio (w ∷ those) o = combinationOf ratio (o ∷ w ∷ those) ∷ []
 
 -- what was made, in order
 abbrev pub madeIn : Made → List Occurrence

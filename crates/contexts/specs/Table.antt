@@ -18,30 +18,30 @@ pub data Findings : Type 0 where
 pub data Removed : Type 0 where
   untaken taken all : Removed
 
--- a row of the table
-pub record Says : Type 0 where
+-- a context is a row of the table
+pub record Context : Type 0 where
   pub takes : Taken
   pub finds : Findings
   pub removes : Removed
 
-abbrev pub recent : Says
+abbrev pub recent : Context
 recent = record { takes = latest; finds = each; removes = untaken }
 
-abbrev pub chronicle : Says
+abbrev pub chronicle : Context
 chronicle = record { takes = earliest; finds = each; removes = taken }
 
-abbrev pub continuous : Says
+abbrev pub continuous : Context
 continuous = record { takes = every; finds = each; removes = all }
 
-abbrev pub cumulative : Says
+abbrev pub cumulative : Context
 cumulative = record { takes = every; finds = together; removes = all }
 
 -- the table, in document 01's order
-abbrev pub table : List Says
+abbrev pub table : List Context
 table = recent ∷ chronicle ∷ continuous ∷ cumulative ∷ []
 
 -- the row of context 1 to 4; any other number is read as recent, and no plan has one
-unfoldable pub rowOf : ℕ → Says
+unfoldable pub rowOf : ℕ → Context
 rowOf context = getD table (context - 1) recent
 
 -- ---- the codes of the code's table
@@ -55,5 +55,5 @@ unfoldable pub removesOf : ℕ → Removed
 removesOf code = pick (eqb code 0) untaken (pick (eqb code 1) taken all)
 
 -- what a row of codes says
-unfoldable pub saysOf : Row → Says
-saysOf r = record { takes = takesOf (r .taken); finds = findsOf (r .findings); removes = removesOf (r .removed) }
+unfoldable pub contextOf : Row → Context
+contextOf r = record { takes = takesOf (r .taken); finds = findsOf (r .findings); removes = removesOf (r .removed) }

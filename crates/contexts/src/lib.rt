@@ -15,7 +15,7 @@ ghost use Rattle.waiting_lists.specs.Waiting.{held};
 ghost use Rattle.contexts.specs.Choice.{andCandidates, chosen, removedOf, removes, seqCandidates, takenOf, takes};
 ghost use Rattle.contexts.specs.Made.{madeIn, madeOf};
 ghost use Rattle.contexts.specs.Steps.{barsOf};
-ghost use Rattle.contexts.specs.Table.{recent, removesOf, rowOf, saysOf, table, takesOf, together as allTogether};
+ghost use Rattle.contexts.specs.Table.{recent, removesOf, rowOf, contextOf, table, takesOf, together as allTogether};
 
 // ---- the table
 
@@ -45,23 +45,27 @@ impl Row {
     pub const ALL: u64 = 2;
 }
 
-// recent, chronicle, continuous, cumulative: contexts 1 to 4.
+// The table, in document 01's order: contexts 1 to 4.
 const ROWS: [Row; 4] = [
+    // recent
     Row {
         taken: Row::LATEST,
         findings: Row::EACH,
         removed: Row::UNTAKEN,
     },
+    // chronicle
     Row {
         taken: Row::EARLIEST,
         findings: Row::EACH,
         removed: Row::TAKEN,
     },
+    // continuous
     Row {
         taken: Row::EVERY,
         findings: Row::EACH,
         removed: Row::ALL,
     },
+    // cumulative
     Row {
         taken: Row::EVERY,
         findings: Row::TOGETHER,
@@ -82,8 +86,9 @@ fn place_of(context: u64) -> usize
     }
 }
 
+// The row of a context.
 pub fn row_of(context: u64) -> Row
-    ensures { λ r. ⌜ saysOf r ≡ rowOf context ⌝ }
+    ensures { λ r. ⌜ contextOf r ≡ rowOf context ⌝ }
 {
     let k = place_of(context);
     ROWS[k]
@@ -160,6 +165,7 @@ fn barred(rule: u64, w: Occurrence, list: WaitingList, candidates: [bool; 16], r
     false
 }
 
+// Whether w, where it is a candidate, is taken.
 fn is_taken(
     mark: bool,
     rule: u64,
@@ -179,6 +185,7 @@ fn is_taken(
     }
 }
 
+// Those that a rule takes of the candidates.
 fn taken_by(rule: u64, list: WaitingList, candidates: [bool; 16], ratio: u64) -> [bool; 16]
     ensures { λ r. ⌜ r ≡ takenOf (takesOf rule) ratio (held list) candidates ⌝ }
 {
@@ -206,6 +213,7 @@ fn is_removed(rule: u64, candidate: bool, taken: bool) -> bool
     }
 }
 
+// Those that a rule removes.
 fn removed_by(rule: u64, candidates: [bool; 16], taken: [bool; 16]) -> [bool; 16]
     ensures { λ r. ⌜ r ≡ removedOf (removesOf rule) candidates taken ⌝ }
 {
@@ -272,6 +280,7 @@ fn each_combined(list: WaitingList, taken: [bool; 16], o: Occurrence, ratio: u64
     }
 }
 
+// The arrival combined with w, where that is taken.
 fn combined_if(mark: bool, o: Occurrence, w: Occurrence, ratio: u64) -> Occurrence
     ensures { λ r. ⌜ r ≡ pick mark (combinedOf ratio o w) o ⌝ }
 {
