@@ -28,7 +28,7 @@ use Rattle.occurrences.specs.Occurrences.{ofEvent}
 
 module _ (ratio : ℕ) (stamps : List Timestamp) (small : Placeable stamps) where
   -- the stamps of a set's events are the passage's
-  stamps-placeable : (s : EventSet) → ((j : ℕ) → has s j ≡ true → j < length stamps) → Placeable (stampsAt stamps s)
+  pub stamps-placeable : (s : EventSet) → ((j : ℕ) → has s j ≡ true → j < length stamps) → Placeable (stampsAt stamps s)
   unfolding stampsAt
   stamps-placeable s h t m =
       let (j, i, e) = map-of (λ j. getD stamps j blankStamp) (elements s) m in
