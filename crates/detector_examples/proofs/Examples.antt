@@ -1,7 +1,8 @@
 -- Document 01's marked examples and its limits, computed from the definitions.
 use mathlib.Core.Path.{_≡_, refl}
 use mathlib.Core.Bool.{true}
-use mathlib.Core.List.{List, [], _∷_, _++_, map, zipWith}
+use mathlib.Core.List.{[], zipWith}
+use lib.ListN.{getD, length}
 use Rattle.sequences.specs.Loops.{fold, loop}
 use Rattle.sequences.specs.Marks.{marked, unmarked, padded}
 use Rattle.sequences.specs.Range.{range}
@@ -26,7 +27,7 @@ use Rattle.detections.specs.Views.{findingOf}
 use Rattle.emissions.specs.Emissions.{emitted, emittedAll, numberOf}
 use Rattle.operators.specs.Turns.{andArrived, arrived, findingsOf, joinsBy, metBy, nodeTurn, orArrived, restOf, seqLeft, seqRight, waited}
 use Rattle.detector.specs.Progress.{arrivalsOf, closed, eventStep, nodeStep, numbersByPlace, runOf, start, turnAt, turned}
-use Rattle.detector_examples.specs.Examples.{eachWith, endsAs, holds, limits, sameNumbers, table}
+use Rattle.detector_examples.specs.Examples.{eachWith, endsAs, holds, limits, operators, planP, sameNumbers, sevens, table}
 
 -- every row of the table: J1 to J8, D1 to D4
 pub table-holds : all holds table ≡ true
@@ -37,3 +38,17 @@ table-holds = refl
 pub limits-hold : all holds limits ≡ true
 unfolding limits eachWith holds endsAs sameNumbers runOf numbersByPlace start eventStep closed nodeStep turned turnAt arrivalsOf nodeTurn arrived seqLeft seqRight waited metBy restOf findingsOf emitted emittedAll numberOf findingBytes findingOf sectionBytes each bigEndian rowOf madeOf seqCandidates chosen takenOf takes removedOf removes isFull isBefore ofEvent combinationOf combinedOf eventsOf stampsOf isSet has elements markedWith unionOf before clearlyEarlier globalOf maxima joinOf members tickOf compositeOf allBefore filter any all range marked unmarked padded zipWith fold loop
 limits-hold = refl
+
+-- the sixteen wait on the left, the seventeenth not
+pub sixteen-wait : length (getD (runOf 32768 (planP 1) (sevens 16) .lefts) 0 []) ≡ 16
+unfolding runOf numbersByPlace start eventStep closed nodeStep turned turnAt arrivalsOf nodeTurn arrived seqLeft seqRight waited metBy restOf findingsOf emitted emittedAll numberOf findingBytes findingOf sectionBytes each bigEndian rowOf madeOf seqCandidates chosen takenOf takes removedOf removes isFull isBefore ofEvent combinationOf combinedOf eventsOf stampsOf isSet has elements markedWith unionOf before clearlyEarlier globalOf maxima joinOf members tickOf compositeOf allBefore filter any all range marked unmarked padded zipWith fold loop
+sixteen-wait = refl
+
+pub seventeenth-not : length (getD (runOf 32768 (planP 1) (sevens 17) .lefts) 0 []) ≡ 16
+unfolding runOf numbersByPlace start eventStep closed nodeStep turned turnAt arrivalsOf nodeTurn arrived seqLeft seqRight waited metBy restOf findingsOf emitted emittedAll numberOf findingBytes findingOf sectionBytes each bigEndian rowOf madeOf seqCandidates chosen takenOf takes removedOf removes isFull isBefore ofEvent combinationOf combinedOf eventsOf stampsOf isSet has elements markedWith unionOf before clearlyEarlier globalOf maxima joinOf members tickOf compositeOf allBefore filter any all range marked unmarked padded zipWith fold loop
+seventeenth-not = refl
+
+-- what stays and what goes, by operator and context
+pub operators-hold : all holds operators ≡ true
+unfolding operators holds endsAs sameNumbers andArrived joinsBy orArrived andCandidates runOf numbersByPlace start eventStep closed nodeStep turned turnAt arrivalsOf nodeTurn arrived seqLeft seqRight waited metBy restOf findingsOf emitted emittedAll numberOf findingBytes findingOf sectionBytes each bigEndian rowOf madeOf seqCandidates chosen takenOf takes removedOf removes isFull isBefore ofEvent combinationOf combinedOf eventsOf stampsOf isSet has elements markedWith unionOf before clearlyEarlier globalOf maxima joinOf members tickOf compositeOf allBefore filter any all range marked unmarked padded zipWith fold loop
+operators-hold = refl

@@ -1,4 +1,4 @@
--- Document 01, "Bridge examples": the marked twelve in one table, and the limits in another.
+-- Document 01, "Bridge examples": the marked twelve in one table; the limits, and what else the operators leave, in two others.
 use mathlib.Core.Bool.{Bool, true, false, _&&_}
 use mathlib.Core.List.{List, [], _∷_, _++_, map}
 use Prim.Native.Nat.{ℕ}
@@ -92,7 +92,7 @@ sevens n = map seven (range 0 n)
 abbrev pub thenNine : ℕ → List Event
 thenNine n = sevens n ++ (nine 110 ∷ [])
 
--- the first n findings of kind 9, event number last, with each event before it
+-- findings at 2:110, each from one of these events and the last
 unfoldable pub eachWith : List ℕ → ℕ → List ℕ
 eachWith [] last = []
 eachWith (i ∷ l) last = fromTwo i last ++ eachWith l last
@@ -108,4 +108,25 @@ limits =
     ∷ ends 20 (planP 1) passageP (outcome 0 3 1 (fromTwo 1 2))
     ∷ ends 19 (planP 1) passageP (outcome 33 2 0 [])
     ∷ ends 0 (planP 1) [] (outcome 0 0 0 [])  -- no events
+    ∷ []
+
+-- ---- what waits on, by further events
+
+-- a finding of node 0 at 2:tick from events i and j
+abbrev at : ℕ → ℕ → ℕ → List ℕ
+at tick i j = 0 ∷ 0 ∷ 0 ∷ 1 ∷ 0 ∷ 2 ∷ 0 ∷ 0 ∷ 0 ∷ 0 ∷ 0 ∷ 0 ∷ 0 ∷ tick ∷ 0 ∷ 2 ∷ 0 ∷ i ∷ 0 ∷ j ∷ []
+
+-- plan P's passage and a second event of kind 9
+abbrev again : List Event
+again = passageP ++ (nine 120 ∷ [])
+
+unfoldable pub operators : List Example
+operators =
+    ends 32768 (planP 1) again (outcome 0 4 2 (at 110 1 2 ++ at 120 1 3))  -- recent: the one taken stays, the other went
+    ∷ ends 32768 (planP 2) again (outcome 0 4 2 (at 110 0 2 ++ at 120 1 3))  -- chronicle: the one taken went
+    ∷ ends 32768 (planP 3) again (outcome 0 4 2 (at 110 0 2 ++ at 110 1 2))  -- continuous: all went
+    ∷ ends 32768 (planP 1) (seven 80 ∷ seven 105 ∷ nine 110 ∷ nine 130 ∷ []) (outcome 0 4 2 (at 110 0 2 ++ at 130 1 3))  -- recent: one that is no candidate stays
+    ∷ ends 32768 (planWith 2 2) (nine 110 ∷ seven 80 ∷ seven 95 ∷ []) (outcome 0 3 1 (at 110 0 1))  -- AND: either side first, and each is consumed
+    ∷ ends 32768 (planWith 2 1) (nine 110 ∷ seven 80 ∷ seven 95 ∷ []) (outcome 0 3 2 (at 110 0 1 ++ at 110 0 2))  -- AND recent: all wait on
+    ∷ ends 32768 (planWith 1 1) (nine 110 ∷ []) (outcome 0 1 1 (at110 ++ (0 ∷ 1 ∷ 0 ∷ 0 ∷ [])))  -- OR
     ∷ []
