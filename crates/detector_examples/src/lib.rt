@@ -1,0 +1,1 @@
+// Examples of the run, as theorems: proofs/ has them.
