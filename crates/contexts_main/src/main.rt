@@ -1,4 +1,4 @@
-// Runs append, remove and the four contexts on a waiting list of five, and prints what is made and what is left.
+// Runs append, remove and the four contexts, and prints what is made and what is left.
 use event_sets::EventSet;
 use occurrences::Occurrence;
 use timestamps::LocalTick;
@@ -17,7 +17,7 @@ fn with(list: WaitingList, o: Occurrence) -> WaitingList {
     l
 }
 
-// Logger 1 at 80 and 95, logger 3 at 100, logger 2 at 300.
+// Four wait: logger 1 at 80 and 95, logger 3 at 100, logger 2 at 300.
 fn waiting() -> WaitingList {
     let a = with(waiting_lists::none(), event(1, 80, 0));
     let b = with(a, event(1, 95, 1));
