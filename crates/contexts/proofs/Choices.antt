@@ -2,32 +2,38 @@
 use mathlib.Core.Path.{_≡_, refl, sym, ap, _∙_}
 use mathlib.Core.Bool.{Bool, true, false, not, _&&_}
 use mathlib.Core.List.{List, [], _∷_, _++_, map, zipWith, Sublistᴰ}
+use mathlib.Core.Logic.{⊎-elim}
 use Prim.Native.Nat.{ℕ, zero, suc}
 use lib.ListN.{getD, length-map}
 use borrow.Author.Tests.{not-true}
 use Rattle.sequences.specs.Marks.{marked, padded, unmarked}
 use Rattle.sequences.specs.Members.{_∈_}
 use Rattle.sequences.specs.Select.{any, filter}
-use Rattle.sequences.proofs.Booleans.{and-left, and-right, false-of-not-true, never-both}
+use Rattle.sequences.proofs.Booleans.{and-both, and-left, and-right, false-of-not-true, never-both}
 use Rattle.sequences.proofs.Marks.{getD-padded, marked-and, marked-map, marked-order, marked-padded, unmarked-map, unmarked-order, unmarked-padded, unmarked-within, zip-maps, zip-padded, zip-test}
-use Rattle.sequences.proofs.Select.{any-append, filter-all, filter-nil}
+use Rattle.sequences.proofs.Select.{any-append, any-in, any-of, filter-all, filter-nil}
 use Rattle.timestamps.specs.declared.Timestamp.{Timestamp}
 use Rattle.timestamps.specs.Composite.{members}
-use Rattle.timestamps.specs.Maxima.{maxima}
+use Rattle.timestamps.specs.Maxima.{maxima, StrictOrder}
+use Rattle.timestamps.proofs.Maxima.{maxima-in, maxima-of, maxima-reach}
 use Rattle.occurrences.specs.declared.Occurrence.{Occurrence}
 use Rattle.occurrences.specs.Occurrences.{isBefore}
-use Rattle.occurrences.proofs.Order.{not-before-itself}
+use Rattle.occurrences.proofs.Order.{before-carries, not-before-itself}
 use Rattle.contexts.specs.Choice.{andCandidates, chosen, removedOf, removes, seqCandidates, takenOf, takes}
 use Rattle.contexts.specs.Table.{Taken, latest, earliest, every, Removed, untaken, taken, all, Context, recent}
 
 -- ---- candidates
+-- those that a test marks
+pub tested-candidates : (p : Occurrence → Bool) (waiting : List Occurrence) → marked waiting (padded 16 (map p waiting)) ≡ filter p waiting
+tested-candidates p waiting = marked-padded 16 (map p waiting) waiting ∙ marked-map p waiting
+
 pub seq-candidates : (ratio : ℕ) (waiting : List Occurrence) (o : Occurrence) → marked waiting (seqCandidates ratio waiting o) ≡ filter (λ w. isBefore ratio w o) waiting
 unfolding seqCandidates
-seq-candidates ratio waiting o = marked-padded 16 _ waiting ∙ marked-map (λ w. isBefore ratio w o) waiting
+seq-candidates ratio waiting o = tested-candidates (λ w. isBefore ratio w o) waiting
 
 pub and-candidates : (waiting : List Occurrence) → marked waiting (andCandidates waiting) ≡ waiting
 unfolding andCandidates
-and-candidates waiting = marked-padded 16 _ waiting ∙ marked-map (λ w. true) waiting ∙ filter-all (λ w. true) waiting (λ w m. refl)
+and-candidates waiting = tested-candidates (λ w. true) waiting ∙ filter-all (λ w. true) waiting (λ w m. refl)
 
 -- ---- those taken: the candidates that the rule takes, in waiting order
 pub taken-are : (t : Taken) (ratio : ℕ) (waiting : List Occurrence) (candidates : List Bool)
@@ -62,6 +68,50 @@ module _ (ratio : ℕ) (l m : List Occurrence) (w : Occurrence) {s : Timestamp} 
   earliest-others =
       let here : any (λ c. isBefore ratio c w) (w ∷ m) ≡ any (λ c. isBefore ratio c w) m = rw (not-before-itself ratio w some) in
       rw (any-append (λ c. isBefore ratio c w) l (w ∷ m), any-append (λ c. isBefore ratio c w) l m, here)
+
+-- ---- where there is a candidate one is taken, if each has a stamp, as in every run
+abbrev pub Stamped : Occurrence → Type 0
+Stamped w = (s : Timestamp) × (s ∈ members (w .latest))
+
+-- a relation that is strict on occurrences with a stamp has a greatest element of each list of them
+module _ (R : Occurrence → Occurrence → Bool) (irreflexive : (w : Occurrence) → Stamped w → R w w ≡ false)
+    (transitive : (a b c : Occurrence) → R a b ≡ true → R b c ≡ true → R a c ≡ true) where
+  abbrev stamped : Occurrence → Bool
+  stamped w = any (λ s. true) (members (w .latest))
+
+  abbrev Strict : Occurrence → Occurrence → Bool
+  Strict a b = R a b && stamped b
+
+  never : (w : Occurrence) → Strict w w ≡ true → ⊥
+  never w e =
+      let (s, m, y) = any-of (λ s. true) (members (w .latest)) (and-right (R w w) (stamped w) e) in
+      never-both (and-left (R w w) (stamped w) e) (irreflexive w (s, m))
+
+  strict : StrictOrder Strict
+  strict = record {
+    irreflexive = λ w. false-of-not-true (Strict w w) (never w);
+    transitive = λ a b c p q. and-both (R a c) (stamped c) (transitive a b c (and-left (R a b) (stamped b) p) (and-left (R b c) (stamped c) q)) (and-right (R b c) (stamped c) q);
+  }
+
+  some-greatest : (l : List Occurrence) {w : Occurrence} → w ∈ l → ((v : Occurrence) → v ∈ l → Stamped v) → (v : Occurrence) × (v ∈ maxima R l)
+  some-greatest l {w} m h = ⊎-elim (λ i. (w, same i)) (λ t. (t .0, same (t .1))) (maxima-reach Strict strict l w m)
+    where
+      same : {v : Occurrence} → v ∈ maxima Strict l → v ∈ maxima R l
+      same {v} i =
+          let (j, none) = maxima-of Strict l v i in
+          maxima-in R l v j (λ b k. false-of-not-true (R v b) (λ e.
+          let (s, n) = h b k in
+          never-both (and-both (R v b) (stamped b) e (any-in (λ s. true) (members (b .latest)) n refl)) (none b k)))
+
+pub some-taken : (t : Taken) (ratio : ℕ) (waiting : List Occurrence) (candidates : List Bool) {w : Occurrence} → w ∈ marked waiting candidates
+    → ((v : Occurrence) → v ∈ marked waiting candidates → Stamped v) → (v : Occurrence) × (v ∈ marked waiting (takenOf t ratio waiting candidates))
+some-taken latest ratio waiting candidates m h =
+    rw (latest-are ratio waiting candidates)
+    (some-greatest (isBefore ratio) (λ w e. not-before-itself ratio w (e .1)) (before-carries ratio) (marked waiting candidates) m h)
+some-taken earliest ratio waiting candidates m h =
+    rw (earliest-are ratio waiting candidates)
+    (some-greatest (λ a b. isBefore ratio b a) (λ w e. not-before-itself ratio w (e .1)) (λ a b c p q. before-carries ratio c b a q p) (marked waiting candidates) m h)
+some-taken every ratio waiting candidates {w} m h = rw (every-are ratio waiting candidates) (w, m)
 
 -- ---- place by place
 taken-place : (f : Occurrence → Bool) (l : List Occurrence) (m : List Bool) (k : ℕ) → getD (zipWith (λ w c. c && f w) l m) k false ≡ true → getD m k false ≡ true
@@ -136,12 +186,9 @@ module _ (row : Context) (ratio : ℕ) (p : Occurrence → Bool) (waiting : List
   abbrev marks : List Bool
   marks = padded 16 (map p waiting)
 
-  pub tested-candidates : marked waiting marks ≡ filter p waiting
-  tested-candidates = marked-padded 16 (map p waiting) waiting ∙ marked-map p waiting
-
   pub tested-taken : chosen row ratio waiting marks .taken ≡ padded 16 (map (λ w. p w && isTaken w) waiting)
   unfolding chosen takenOf
-  tested-taken = ap (padded 16) (zip-test (λ w c. c && takes (row .takes) ratio (marked waiting marks) w) p 16 waiting ∙ rw tested-candidates)
+  tested-taken = ap (padded 16) (zip-test (λ w c. c && takes (row .takes) ratio (marked waiting marks) w) p 16 waiting ∙ rw (tested-candidates p waiting))
 
   pub tested-removed : chosen row ratio waiting marks .removed ≡ padded 16 (map (λ w. removes (row .removes) (p w) (p w && isTaken w)) waiting)
   unfolding chosen removedOf
