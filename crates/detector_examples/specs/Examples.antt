@@ -101,12 +101,12 @@ unfoldable pub limits : List Example
 limits =
     ends 32768 (planP 1) (sevens 16) (outcome 0 16 0 [])  -- 16 wait
     ∷ ends 32768 (planP 1) (sevens 17) (outcome 31 16 0 [])
+    ∷ ends 20 (planP 1) passageP (outcome 0 3 1 (fromTwo 1 2))
+    ∷ ends 19 (planP 1) passageP (outcome 33 2 0 [])
     ∷ ends 32768 (planP 3) (thenNine 8) (outcome 0 9 8 (eachWith (range 0 8) 8))  -- eight findings pass
     ∷ ends 32768 (planP 3) (thenNine 9) (outcome 32 9 8 (eachWith (range 0 8) 9))
     ∷ ends 160 (planP 3) (thenNine 9) (outcome 32 9 8 (eachWith (range 0 8) 9))  -- 32 before 33
     ∷ ends 159 (planP 3) (thenNine 9) (outcome 33 9 7 (eachWith (range 0 7) 9))
-    ∷ ends 20 (planP 1) passageP (outcome 0 3 1 (fromTwo 1 2))
-    ∷ ends 19 (planP 1) passageP (outcome 33 2 0 [])
     ∷ ends 0 (planP 1) [] (outcome 0 0 0 [])  -- no events
     ∷ []
 

@@ -61,104 +61,47 @@ fn print_run(r: Run, out: &[u8]) {
     print(b"\n");
 }
 
-// Plan P with a context byte, on its passage.
-fn work(context: u8, out: &mut [u8]) {
-    let plan_file = [
-        0u8,
-        1,
-        0,
-        0,
-        0,
-        10,
-        0,
-        2,
-        0,
-        1,
-        0,
-        2,
-        0,
-        2,
-        0,
-        7,
-        0,
-        9,
-        0,
-        1,
-        3,
-        context,
-        0,
-        0,
-        0,
-        1,
-    ];
-    let passage = [
-        0u8,
-        3,
-        0,
-        7,
-        0,
-        1,
-        0,
-        0,
-        0,
-        0,
-        0,
-        0,
-        0,
-        80,
-        0,
-        7,
-        0,
-        1,
-        0,
-        0,
-        0,
-        0,
-        0,
-        0,
-        0,
-        95,
-        0,
-        9,
-        0,
-        2,
-        0,
-        0,
-        0,
-        0,
-        0,
-        0,
-        0,
-        110,
-    ];
-    let read = plans::read_plan(&plan_file);
+// A plan file on plan P's passage.
+fn work(plan_file: &[u8], out: &mut [u8]) {
+    let passage =
+        b"\x00\x03\x00\x07\x00\x01\x00\x00\x00\x00\x00\x00\x00\x50\x00\x07\x00\x01\x00\x00\x00\x00\x00\x00\x00\x5f\x00\x09\x00\x02\x00\x00\x00\x00\x00\x00\x00\x6e";
+    let read = plans::read_plan(plan_file);
     let plan_fault = read.fault;
     if !plan_fault.is_none() {
         print(b" plan turned back\n");
         return;
     }
     let plan = read.plan;
-    let check = passages::check_passage(plan, &passage);
+    let check = passages::check_passage(plan, passage);
     let passage_fault = check.fault;
     if !passage_fault.is_none() {
         print(b" passage turned back\n");
         return;
     }
-    let r = detector::run_events(plan, &passage, out);
+    let r = detector::run_events(plan, passage, out);
     print_run(r, out);
 }
 
 fn main() {
+    // Plan P with each context.
+    let recent =
+        b"\x00\x01\x00\x00\x00\x0a\x00\x02\x00\x01\x00\x02\x00\x02\x00\x07\x00\x09\x00\x01\x03\x01\x00\x00\x00\x01";
+    let chronicle =
+        b"\x00\x01\x00\x00\x00\x0a\x00\x02\x00\x01\x00\x02\x00\x02\x00\x07\x00\x09\x00\x01\x03\x02\x00\x00\x00\x01";
+    let continuous =
+        b"\x00\x01\x00\x00\x00\x0a\x00\x02\x00\x01\x00\x02\x00\x02\x00\x07\x00\x09\x00\x01\x03\x03\x00\x00\x00\x01";
+    let cumulative =
+        b"\x00\x01\x00\x00\x00\x0a\x00\x02\x00\x01\x00\x02\x00\x02\x00\x07\x00\x09\x00\x01\x03\x04\x00\x00\x00\x01";
     let mut out = [0u8; 32768];
     print(b"D1");
-    work(1, &mut out);
+    work(recent, &mut out);
     print(b"D2");
-    work(2, &mut out);
+    work(chronicle, &mut out);
     print(b"D3");
-    work(3, &mut out);
+    work(continuous, &mut out);
     print(b"D4");
-    work(4, &mut out);
+    work(cumulative, &mut out);
     let mut short = [0u8; 19];
     print(b"D1 in 19 bytes");
-    work(1, &mut short);
+    work(recent, &mut short);
 }
