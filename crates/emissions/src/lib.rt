@@ -30,7 +30,8 @@ pub struct Emit {
     pub at: usize,
 }
 
-fn number_of(l: Limit) -> u64
+// Document 01's number of a limit, 0 for none.
+pub fn number_of(l: Limit) -> u64
     ensures { λ r. ⌜ r ≡ numberOf l ⌝ }
 {
     match l {

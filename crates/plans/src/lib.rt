@@ -161,6 +161,27 @@ impl PlanFault {
             _ => false,
         }
     }
+
+    // Document 01's number of the fault, 0 for none.
+    pub fn number(self) -> u64
+        ensures { λ r. ⌜ r ≡ numberOf self ⌝ }
+    {
+        match self {
+            PlanFault::None => 0,
+            PlanFault::CutShort => 1,
+            PlanFault::ClockCount => 2,
+            PlanFault::Ratio => 3,
+            PlanFault::LoggerCount => 4,
+            PlanFault::LoggerNumber => 5,
+            PlanFault::KindCount => 6,
+            PlanFault::KindNumber => 7,
+            PlanFault::NodeCount => 8,
+            PlanFault::Operator => 9,
+            PlanFault::Context => 10,
+            PlanFault::Input => 11,
+            PlanFault::BytesRemain => 12,
+        }
+    }
 }
 
 // A number from low to high, or the fault `wrong`.

@@ -1,21 +1,6 @@
 // Document 01's examples D1 to D4, worked from their files' bytes: for each the number, the place, the findings and the bytes, then the bytes.
 use detector::Run;
-use emissions::Limit;
 use libc::STDOUT_FILENO;
-ghost use mathlib.Core.Path.{_≡_};
-ghost use Rattle.emissions.specs.Emissions.{numberOf};
-
-// A limit's number in document 01.
-fn number_of(limit: Limit) -> u64
-    ensures { λ r. ⌜ r ≡ numberOf limit ⌝ }
-{
-    match limit {
-        Limit::None => 0,
-        Limit::ListFull => 31,
-        Limit::NodeFull => 32,
-        Limit::OutputFull => 33,
-    }
-}
 
 fn print(text: &[u8]) {
     io::write_all(STDOUT_FILENO, text);
@@ -50,7 +35,7 @@ fn print_bytes(out: &[u8], n: usize) {
 // The place is 0 where no limit is met.
 fn print_run(r: Run, out: &[u8]) {
     let limit = r.limit;
-    let number = number_of(limit);
+    let number = emissions::number_of(limit);
     let place = if number == 0 { 0 } else { r.event };
     print_number(number);
     print_number(place as u64);
