@@ -1,4 +1,4 @@
-//! The values that go in and out of the open calls, laid out as in include/rathunxa.h.
+//! The values that go in and out of the library, laid out as in include/rathunxa.h.
 
 use std::fmt;
 
@@ -33,4 +33,14 @@ pub struct Comparison {
     pub before: bool,
     pub concurrent: bool,
     pub weakly_before: bool,
+}
+
+/// The answer for two files.
+#[repr(C)]
+#[derive(Debug, Clone, Copy, PartialEq, Eq)]
+pub struct Answer {
+    pub number: u64,
+    pub place: u64,
+    pub findings: u64,
+    pub bytes: u64,
 }

@@ -1,5 +1,7 @@
-//! A second implementation of the open calls, in plain Rust, to hold against the proved library.
+//! A second implementation of the library, in plain Rust, to hold against the proved one.
 
+pub mod examples;
+pub mod files;
 pub mod generator;
 pub mod interface;
 pub mod library;

@@ -1,25 +1,37 @@
 //! Runs the library and the second implementation on the same cases and ends at the first difference.
 
+use rathunxa_compare::examples::write_examples;
 use rathunxa_compare::generator::{compare_case, join_case, Random};
 use rathunxa_compare::interface::Comparison;
 use rathunxa_compare::{library, options, reference};
 use std::collections::BTreeMap;
 use std::fmt::Debug;
+use std::path::Path;
 use std::process::ExitCode;
+
+const USAGE: &str = "usage: compare [--cases N] [--seed S]\n       compare --write-examples FOLDER";
 
 fn main() -> ExitCode {
     let arguments: Vec<String> = std::env::args().skip(1).collect();
-    let values = match options::numbers(&arguments, &[("--cases", 200_000), ("--seed", 1)]) {
-        Ok(values) => values,
-        Err(reason) => {
-            eprintln!("compare: {reason}\nusage: compare [--cases N] [--seed S]");
-            return ExitCode::from(2);
+    if let [option, folder] = &arguments[..] {
+        if option == "--write-examples" {
+            return ended(write_examples(Path::new(folder)).map_err(|error| error.to_string()));
         }
-    };
-    match run_all(values[0], values[1]) {
+    }
+    match options::numbers(&arguments, &[("--cases", 200_000), ("--seed", 1)]) {
+        Ok(values) => ended(run_all(values[0], values[1])),
+        Err(reason) => {
+            eprintln!("compare: {reason}\n{USAGE}");
+            ExitCode::from(2)
+        }
+    }
+}
+
+fn ended(result: Result<(), String>) -> ExitCode {
+    match result {
         Ok(()) => ExitCode::SUCCESS,
-        Err(difference) => {
-            println!("{difference}");
+        Err(reason) => {
+            println!("{reason}");
             ExitCode::FAILURE
         }
     }

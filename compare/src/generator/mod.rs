@@ -1,9 +1,11 @@
 //! Seeded cases. The same seed and case number always give the same case.
 
+mod files;
 mod open_calls;
 mod random;
 #[cfg(test)]
 mod tests;
 
+pub use files::{file_case, swept_cases};
 pub use open_calls::{compare_case, composite, entries, join_case, CompareCase, JoinCase};
 pub use random::Random;

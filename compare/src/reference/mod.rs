@@ -1,9 +1,20 @@
 //! The second implementation, written from the scope document alone, in the most obvious form.
 
+mod listing;
 mod open_calls;
+mod passages;
+mod plans;
+mod reader;
+mod refusal;
+mod run;
 #[cfg(test)]
 mod tests;
+#[cfg(test)]
+mod tests_of_files;
 mod timestamps;
+mod work;
 
+pub use listing::{detections, listing, Detection};
 pub use open_calls::{compare, join};
 pub use timestamps::{before, composite_before, composite_concurrent, concurrent, latest, weakly_before};
+pub use work::work;

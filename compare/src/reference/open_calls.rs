@@ -1,43 +1,26 @@
 //! The two open calls, with the refusals 34 to 37.
 
+use super::refusal::{require, Refusal};
 use super::timestamps::{composite_before, composite_concurrent, concurrent, latest, weakly_before};
 use crate::interface::{Comparison, JoinAnswer, Timestamp};
 
 const BLANK: Timestamp = Timestamp { logger: 255, tick: 0 };
 const TICKS_END: u64 = 1 << 63;
 
-/// A number of the scope document's table and the place it is given at.
-struct Refusal {
-    number: u64,
-    place: u64,
-}
-
 fn check_ratio(ratio: u64) -> Result<(), Refusal> {
-    if ratio == 0 || ratio > 1_000_000 {
-        return Err(Refusal { number: 34, place: 0 });
-    }
-    Ok(())
+    require((1..=1_000_000).contains(&ratio), 34, 0)
 }
 
 fn check_count(list: &[Timestamp], first_place: u64) -> Result<(), Refusal> {
-    if list.is_empty() || list.len() > 128 {
-        return Err(Refusal { number: 35, place: first_place });
-    }
-    Ok(())
+    require((1..=128).contains(&list.len()), 35, first_place)
 }
 
 fn check_entry(entry: &Timestamp, place: u64) -> Result<(), Refusal> {
-    if entry.logger > 7 || entry.tick >= TICKS_END {
-        return Err(Refusal { number: 36, place });
-    }
-    Ok(())
+    require(entry.logger <= 7 && entry.tick < TICKS_END, 36, place)
 }
 
 fn check_concurrent(ratio: u64, entry: &Timestamp, earlier: &[Timestamp], place: u64) -> Result<(), Refusal> {
-    if earlier.iter().any(|s| !concurrent(ratio, s, entry)) {
-        return Err(Refusal { number: 37, place });
-    }
-    Ok(())
+    require(earlier.iter().all(|s| concurrent(ratio, s, entry)), 37, place)
 }
 
 fn check_joined(ratio: u64, list: &[Timestamp]) -> Result<(), Refusal> {
