@@ -1,4 +1,5 @@
 // The plan file: clocks, loggers, kinds and nodes. The layout, the limits and the numbers of the faults are document 01's.
+use timestamps::Timestamp;
 ghost use mathlib.Core.Path.{_≡_};
 ghost use Prim.Native.Nat.{_+_, _<_, _≤_};
 ghost use mathlib.Core.List.{[], _∷_};
@@ -66,8 +67,6 @@ pub struct Plan {
 }
 
 impl Plan {
-    pub const MAX_RATIO: u64 = 1_000_000;
-
     pub const MAX_LOGGERS: u64 = 8;
 
     pub const MAX_KINDS: u64 = 32;
@@ -224,7 +223,7 @@ fn read_clocks(bytes: &[u8], start: usize) -> NumberRead
     if !fault.is_none() {
         return count;
     }
-    read_number(bytes, count.at, 4, 1, Plan::MAX_RATIO, PlanFault::Ratio)
+    read_number(bytes, count.at, 4, 1, Timestamp::MAX_RATIO, PlanFault::Ratio)
 }
 
 // ---- loggers and kinds: numbers, each above the one before
