@@ -10,7 +10,8 @@ use Rattle.sequences.specs.Choice.{pick}
 use Rattle.sequences.specs.Loops.{fold}
 use Rattle.sequences.specs.Marks.{firstMark, marked, padded}
 use Rattle.sequences.specs.Select.{any}
-use Rattle.sequences.proofs.Arrays.{getD-map-in, getD-zip, length-zip}
+use Rattle.sequences.proofs.Arrays.{getD-zip, length-zip}
+use Rattle.sequences.proofs.Parts.{getD-map}
 use Rattle.sequences.proofs.Marks.{any-marked-no, any-marked-yes, fold-marked, map-marked, marked-none, marked-some, padded-end, padded-full, padded-turn}
 use Rattle.sequences.proofs.Select.{any-none}
 use Rattle.occurrences.specs.declared.Occurrence.{Occurrence}
@@ -102,7 +103,7 @@ module _ (list : WaitingList) (m : List Bool) (i : ℕ) (in-list : i < length (h
   -- a test of each
   pub tested-turn : (p : Occurrence → Bool) (v : Bool) → m ≡ padded 16 (take i (map p waiting)) → v ≡ p (getD (list .items) i blank) → set m i v ≡ padded 16 (take (i + 1) (map p waiting))
   tested-turn p v e f =
-      padded-turn 16 (map p waiting) m i v (omega (arith, length-map waiting p)) (omega (arith, length-map waiting p)) e (f ∙ ap p (waiting-at list i in-list) ∙ sym (getD-map-in p waiting i blank false in-list))
+      padded-turn 16 (map p waiting) m i v (omega (arith, length-map waiting p)) (omega (arith, length-map waiting p)) e (f ∙ ap p (waiting-at list i in-list) ∙ sym (getD-map p waiting i blank false in-list))
 
   -- a test of each with its mark
   pub zipped-turn : (f : Occurrence → Bool → Bool) (marks : List Bool) (v : Bool) → length marks ≡ 16 → m ≡ padded 16 (take i (zipWith f waiting marks))

@@ -4,7 +4,7 @@ use mathlib.Core.List.{List, [], _∷_, map}
 use Prim.Native.Nat.{ℕ, _-_, _≤_, _<_}
 use native.Mathlib.Omega.{arith}
 use lib.ListN.{getD, List·getD-eq-default}
-use Rattle.sequences.proofs.Arrays.{getD-map-in}
+use Rattle.sequences.proofs.Parts.{getD-map}
 use Rattle.contexts.specs.declared.Row.{Row}
 use Rattle.contexts.specs.Table.{recent, table, rowOf, takesOf, findsOf, removesOf, contextOf}
 
@@ -31,7 +31,7 @@ rows-say = refl
 
 -- so a row of codes says what the row at its place says
 pub row-at : (context k : ℕ) (d : Row) → (k < 4) × (getD table k recent ≡ rowOf context) → contextOf (getD rows k d) ≡ rowOf context
-row-at context k d (h, e) = sym (getD-map-in contextOf rows k d recent h) ∙ ap (λ t. getD t k recent) rows-say ∙ e
+row-at context k d (h, e) = sym (getD-map contextOf rows k d recent h) ∙ ap (λ t. getD t k recent) rows-say ∙ e
 
 -- ---- the place of a context's row
 pub place-first : (context : ℕ) → context < 2 → (0 < 4) × (getD table 0 recent ≡ rowOf context)

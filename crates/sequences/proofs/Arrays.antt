@@ -50,12 +50,6 @@ map-set f [] i v = refl
 map-set f (a ∷ l) zero v = refl
 map-set f (a ∷ l) (suc i) v = ap (λ m. f a ∷ m) (map-set f l i v)
 
--- ---- elements
-pub getD-map-in : {A B : Type 0} (f : A → B) (l : List A) (i : ℕ) (d : A) (z : B) → i < length l → getD (map f l) i z ≡ f (getD l i d)
-getD-map-in f [] i d z h = absurd (omega arith)
-getD-map-in f (a ∷ l) zero d z h = refl
-getD-map-in f (a ∷ l) (suc i) d z h = getD-map-in f l i d z (omega arith)
-
 -- ---- two lists side by side
 module _ {A B C : Type 0} (f : A → B → C) where
   pub length-zip : (l : List A) (m : List B) → length l ≤ length m → length (zipWith f l m) ≡ length l

@@ -13,7 +13,7 @@ use Rattle.sequences.specs.Choice.{pick}
 use Rattle.sequences.specs.Members.{_∈_, SameMembers}
 use Rattle.sequences.specs.Range.{range}
 use Rattle.sequences.specs.Select.{filter, any}
-use Rattle.sequences.proofs.Arrays.{getD-map-in}
+use Rattle.sequences.proofs.Parts.{getD-map}
 use Rattle.sequences.proofs.Booleans.{either-way, never-both, same-test, false-of-not-true}
 use Rattle.sequences.proofs.Members.{map-in, map-of, map-same}
 use Rattle.sequences.proofs.Range.{range-in, range-of, length-range, getD-range}
@@ -31,7 +31,7 @@ same-stamp s t e f = λ i. record { logger = e i; tick = record { 0 = f i } }
 pub at-place : {B : Type 0} (f : ℕ → B) (z : B) (k : ℕ) → k < 8 → getD (map f loggerPlaces) k z ≡ f k
 at-place f z k h =
     let n : k < length loggerPlaces = omega (arith, length-range 0 8) in
-    getD-map-in f loggerPlaces k 0 z n ∙ ap f (getD-range 0 8 k 0 h ∙ omega arith)
+    getD-map f loggerPlaces k 0 z n ∙ ap f (getD-range 0 8 k 0 h ∙ omega arith)
 
 pub each-place : {B : Type 0} (f g : ℕ → B) → ((k : ℕ) → k < 8 → f k ≡ g k) → map f loggerPlaces ≡ map g loggerPlaces
 each-place f g h = map-same f g loggerPlaces (λ k m. h k (range-of 0 8 m .1))
