@@ -223,7 +223,14 @@ fn read_clocks(bytes: &[u8], start: usize) -> NumberRead
     if !fault.is_none() {
         return count;
     }
-    read_number(bytes, count.at, 4, 1, Timestamp::MAX_RATIO, PlanFault::Ratio)
+    read_number(
+        bytes,
+        count.at,
+        4,
+        1,
+        Timestamp::MAX_RATIO,
+        PlanFault::Ratio,
+    )
 }
 
 // ---- loggers and kinds: numbers, each above the one before
