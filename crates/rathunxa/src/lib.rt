@@ -1,9 +1,19 @@
 // The C interface: include/rathunxa.h declares these functions. Each only passes its arguments on.
 ghost use mathlib.Core.Path.{_≡_};
+ghost use lib.ListN.{length};
+ghost use Rattle.gateway.specs.Working.{Answers, worked};
 ghost use Rattle.open_calls.specs.Answers.{compareAnswer, joinAnswer};
+use gateway::Answer;
 use open_calls::Comparison;
 use open_calls::JoinAnswer;
 use timestamps::Timestamp;
+
+#[no_mangle]
+pub extern "C" fn rathunxa_work(plan: &[u8], passage: &[u8], output: &mut [u8]) -> Answer
+    ensures { λ r. ⌜ Answers (worked (now (plan .entry)) (now (passage .entry)) (length (now (output .entry)))) (now (output .entry)) r (now (output .exit)) ⌝ }
+{
+    gateway::work(plan, passage, output)
+}
 
 #[no_mangle]
 pub extern "C" fn rathunxa_join(ratio: u64, list: &[Timestamp]) -> JoinAnswer
