@@ -12,6 +12,7 @@ use borrow.Author.Tests.{lt-ltb, le-leb, ltb-true, leb-true}
 use Rattle.sequences.specs.Members.{_∈_}
 use Rattle.sequences.specs.Select.{all}
 use Rattle.sequences.proofs.Booleans.{either-way, same-test}
+use Rattle.sequences.proofs.Rising.{rising-snoc, rising-same}
 use Rattle.sequences.proofs.Select.{all-of}
 use Rattle.event_sets.specs.declared.EventSet.{EventSet}
 use Rattle.event_sets.specs.Sets.{noEvents, markedWith, elements}
@@ -28,7 +29,6 @@ use Rattle.detections.specs.declared.Stamp.{Stamp}
 use Rattle.detections.specs.Findings.{stamp}
 use Rattle.detections.specs.Reader.{stampSection, eventSection, findingAt, found, notFound, readFinding}
 use Rattle.detections.specs.Steps.{faultOf}
-use Rattle.detections.proofs.Rising.{rising-snoc, rising-same}
 
 -- ---- a number, as `forms` reads it
 module _ (b : List ℕ) (at low high : ℕ) (r : NumberRead) (e : r ≡ numberRead 2 low high b at) where

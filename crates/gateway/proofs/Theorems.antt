@@ -1,26 +1,39 @@
--- Demand 1 over the definition: every pair of files is worked, or turned back under one number with no finding and no byte.
+-- Over the definition: every pair of files is worked, or turned back under one number with no finding and no byte (demand 1); what is
+-- written has exact latest stamps, and two findings with the same set of stamps have the same ones (demand 3).
 use mathlib.Core.Logic.{_⊎_, ⊎-elim}
-use mathlib.Core.List.{List, map}
-use mathlib.Core.Path.{_≡_}
+use mathlib.Core.List.{List, [], _++_, map, Memᴰ·append-left, Memᴰ·append-right, List·Memᴰ·head, List·Memᴰ·tail, List·Memᴰ·not-nil}
+use mathlib.Core.Path.{_≡_, refl, sym, subst, _∙_}
 use Prim.Native.Nat.{ℕ, _≤_, _<_}
 use native.Mathlib.Omega.{arith}
 use lib.Dec.{eqb}
 use lib.ListN.{length, take}
 use lib.Seq.{take-all}
 use borrow.Author.Tests.{ne-eqb}
+use Rattle.sequences.specs.Members.{_∈_, SameMembers}
+use Rattle.sequences.specs.Range.{range}
+use Rattle.sequences.proofs.Range.{range-in}
 use Rattle.plans.specs.Layout.{Plan}
-use Rattle.plans.specs.Reader.{readPlan, accepted as acceptedPlan, refused as refusedPlan}
+use Rattle.plans.specs.Limits.{PlanOk}
+use Rattle.plans.specs.Reader.{PlanAnswer, readPlan, accepted as acceptedPlan, refused as refusedPlan}
 use Rattle.plans.proofs.Theorems.{accepted-is-laid-out, one-answer as one-plan-answer}
 use Rattle.passages.specs.declared.EventEntry.{EventEntry}
 use Rattle.passages.specs.Events.{passageEvents}
-use Rattle.passages.specs.Reader.{readPassage, accepted, refused}
+use Rattle.passages.specs.Reader.{PassageAnswer, readPassage, accepted, refused}
 use Rattle.passages.proofs.Theorems.{accepted-count, one-answer as one-passage-answer}
 use Rattle.forms.specs.Bytes.{Bytes}
 use Rattle.occurrences.specs.Latest.{Exact}
+use Rattle.detections.specs.Findings.{Finding, findingsBytes}
+use Rattle.detections.proofs.Telling.{AllFit, findings-told}
+use Rattle.detections.proofs.Theorems.{within-fits}
+use Rattle.emissions.specs.declared.Limit.{Limit}
+use Rattle.emissions.specs.declared.Limit.the-variants.{None, ListFull, NodeFull, OutputFull}
+use Rattle.emissions.specs.Emissions.{numberOf}
 use Rattle.detector.specs.Progress.{numbersByPlace, runOf, stampOf}
-use Rattle.latest_stamps.specs.Written.{Written}
+use Rattle.latest_stamps.specs.Written.{Kept}
 use Rattle.latest_stamps.proofs.Theorems.{accepted-exact}
-use Rattle.gateway.specs.Working.{endOf, turnedBack, worked}
+use Rattle.gateway.specs.Latest.{ExactFinding, LatestExact, WrittenExact, entriesOf, stampsFrom}
+use Rattle.gateway.specs.Working.{answerNumbers, endOf, turnedBack, worked}
+use Rattle.gateway.proofs.Latest.{shown-exact, stamps-same}
 
 -- the plan is turned back under 1 to 12, or the passage under 21 to 26, or both are accepted and the passage is worked
 pub data Ends (plan passage : List ℕ) (room : ℕ) : Type 0 where
@@ -54,13 +67,86 @@ module _ (plan passage : List ℕ) (room : ℕ) where
       (λ a. plan-fault (a .0) (a .1) (a .2) (a .3) (plan-stops (a .0) (a .1) (a .2) (a .4)))
       (one-plan-answer plan)
 
--- demand 3 for what is written: the bytes are those of so many findings, each of an exact occurrence of the passage
-pub worked-exact : (plan passage : List ℕ) (room : ℕ) → Bytes plan → Bytes passage → (p : Plan) → readPlan plan ≡ acceptedPlan p → (es : List EventEntry)
-    → readPassage p passage ≡ accepted es
-    → Written (Exact (p .ratio) (map stampOf (passageEvents p passage))) (numbersByPlace (p .loggers)) (length (p .nodes))
-    (worked plan passage room .findings) (worked plan passage room .bytes)
-worked-exact plan passage room B C p e es f =
-    let whole : take (length es) (passageEvents p passage) ≡ passageEvents p passage =
-    take-all (length es) (passageEvents p passage) (omega (arith, accepted-count p passage es C f)) in
-    let kept = accepted-exact p passage es (accepted-is-laid-out plan p B e .1) C f room (length es) (omega arith) in
-    rw (both-pass plan passage room p es e f) (rw whole at (kept .written))
+-- ---- the numbers of the table
+of-plan : (k : ℕ) → 1 ≤ k → k ≤ 12 → k ∈ answerNumbers
+of-plan k l m = List·Memᴰ·tail (Memᴰ·append-left (range 21 6 ++ range 31 3) (range-in 1 12 k l (omega arith)))
+
+of-passage : (k : ℕ) → 21 ≤ k → k ≤ 26 → k ∈ answerNumbers
+of-passage k l m = List·Memᴰ·tail (Memᴰ·append-right (range 1 12) (Memᴰ·append-left (range 31 3) (range-in 21 6 k l (omega arith))))
+
+of-working : (k : ℕ) → 31 ≤ k → k ≤ 33 → k ∈ answerNumbers
+of-working k l m = List·Memᴰ·tail (Memᴰ·append-right (range 1 12) (Memᴰ·append-right (range 21 6) (range-in 31 3 k l (omega arith))))
+
+of-limit : (l : Limit) → numberOf l ∈ answerNumbers
+unfolding numberOf
+of-limit None = List·Memᴰ·head refl
+of-limit ListFull = of-working 31 (omega arith) (omega arith)
+of-limit NodeFull = of-working 32 (omega arith) (omega arith)
+of-limit OutputFull = of-working 33 (omega arith) (omega arith)
+
+-- ---- demand 3 for what is written
+module _ (plan passage : List ℕ) (room : ℕ) (B : Bytes plan) (C : Bytes passage) where
+  -- a fault leaves no finding and no byte
+  none-written : (number place : ℕ) → worked plan passage room ≡ turnedBack number place
+      → LatestExact plan passage (worked plan passage room .findings) (worked plan passage room .bytes)
+  unfolding LatestExact findingsBytes
+  none-written number place e = rw e (record { findings = []; many = refl; laid = refl; each = λ f m. absurd (List·Memᴰ·not-nil m) })
+
+  module _ (p : Plan) (e : readPlan plan ≡ acceptedPlan p) (es : List EventEntry) (f : readPassage p passage ≡ accepted es) where
+    plan-ok : PlanOk p
+    plan-ok = accepted-is-laid-out plan p B e .1
+
+    kept : Kept (Exact (p .ratio) (map stampOf (passageEvents p passage))) (numbersByPlace (p .loggers)) (length (p .nodes)) (length es)
+        (runOf room p (passageEvents p passage))
+    kept =
+        let whole : take (length es) (passageEvents p passage) ≡ passageEvents p passage =
+        take-all (length es) (passageEvents p passage) (omega (arith, accepted-count p passage es C f)) in
+        rw whole at (accepted-exact p passage es plan-ok C f room (length es) (omega arith))
+
+    run-written : WrittenExact (p .ratio) es (runOf room p (passageEvents p passage) .findings) (runOf room p (passageEvents p passage) .bytes)
+    run-written =
+        let w = kept .written in
+        record { findings = w .findings; many = w .many; laid = w .laid; each = λ x m. shown-exact p passage es plan-ok C f x (w .each x m) }
+
+    -- p and es are what the bytes are read as
+    as-read : (count : ℕ) (bytes : List ℕ) → WrittenExact (p .ratio) es count bytes → LatestExact plan passage count bytes
+    unfolding LatestExact
+    as-read count bytes w =
+        subst (λ (a : PlanAnswer). WrittenExact (a .plan .ratio) (readPassage (a .plan) passage .events) count bytes) (sym e)
+        (subst (λ (b : PassageAnswer). WrittenExact (p .ratio) (b .events) count bytes) (sym f) w)
+
+  -- the bytes written are those of as many findings as the answer says, and the latest stamps of each are exact
+  pub worked-exact : LatestExact plan passage (worked plan passage room .findings) (worked plan passage room .bytes)
+  worked-exact = go (every-pair-ends plan passage room)
+    where
+      go : Ends plan passage room → LatestExact plan passage (worked plan passage room .findings) (worked plan passage room .bytes)
+      go (plan-fault number place l m e) = none-written number place e
+      go (passage-fault p a number place l m e) = none-written number place e
+      go (works p a es b e) = rw e (as-read p a es b _ _ (run-written p a es b))
+
+  -- the number of every answer is 0 or one of the table's
+  pub one-number : worked plan passage room .number ∈ answerNumbers
+  one-number = go (every-pair-ends plan passage room)
+    where
+      go : Ends plan passage room → worked plan passage room .number ∈ answerNumbers
+      go (plan-fault number place l m e) = rw e (of-plan number l m)
+      go (passage-fault p a number place l m e) = rw e (of-passage number l m)
+      go (works p a es b e) = let (l, n) = kept p a es b .limit in rw (e, n) (of-limit l)
+
+  -- whichever list of findings has those bytes, each of it is exact
+  pub findings-exact : (fs : List Finding) → AllFit fs → worked plan passage room .bytes ≡ findingsBytes fs
+      → (f : Finding) → f ∈ fs → ExactFinding (readPlan plan .plan .ratio) (entriesOf plan passage) f
+  unfolding LatestExact
+  findings-exact fs fit e f m =
+      let w = worked-exact in
+      let same : fs ≡ w .findings = findings-told fs (w .findings) fit (λ g i. within-fits g (w .each g i .limits)) (sym e ∙ w .laid) in
+      w .each f (subst (λ l. f ∈ l) same m)
+
+-- two findings of one or two passages under one plan whose events have the same set of stamps carry the same latest stamps
+pub same-latest : (plan passage passage′ : List ℕ) (room room′ : ℕ) → Bytes plan → Bytes passage → Bytes passage′
+    → (fs fs′ : List Finding) → AllFit fs → AllFit fs′ → worked plan passage room .bytes ≡ findingsBytes fs → worked plan passage′ room′ .bytes ≡ findingsBytes fs′
+    → (f f′ : Finding) → f ∈ fs → f′ ∈ fs′
+    → SameMembers (stampsFrom (entriesOf plan passage) (f .events)) (stampsFrom (entriesOf plan passage′) (f′ .events)) → f .stamps ≡ f′ .stamps
+same-latest plan passage passage′ room room′ B C C′ fs fs′ a a′ e e′ f f′ m m′ same =
+    stamps-same (readPlan plan .plan .ratio) (entriesOf plan passage) (entriesOf plan passage′) f f′
+    (findings-exact plan passage room B C fs a e f m) (findings-exact plan passage′ room′ B C′ fs′ a′ e′ f′ m′) same

@@ -1,10 +1,11 @@
 -- Document 01, "Files" and "Where work is turned back": a passage worked under a plan, both from their bytes.
-use mathlib.Core.List.{List, [], _++_}
+use mathlib.Core.List.{List, [], _∷_, _++_}
 use mathlib.Core.Path.{_≡_}
 use Prim.Native.Nat.{ℕ}
 use lib.Dec.{eqb}
 use lib.ListN.{drop, length}
 use Rattle.sequences.specs.Choice.{pick}
+use Rattle.sequences.specs.Range.{range}
 use Rattle.plans.specs.Layout.{Plan}
 use Rattle.plans.specs.Reader.{PlanAnswer, readPlan}
 use Rattle.passages.specs.Events.{passageEvents}
@@ -19,6 +20,10 @@ pub record Work : Type 0 where
   pub place : ℕ
   pub findings : ℕ
   pub bytes : List ℕ
+
+-- 0, and the numbers of the table for two files: 1 to 12 of the plan, 21 to 26 of the passage, 31 to 33 on the way
+abbrev pub answerNumbers : List ℕ
+answerNumbers = 0 ∷ (range 1 12 ++ (range 21 6 ++ range 31 3))
 
 -- a fault in a file: no finding, no byte
 abbrev pub turnedBack : ℕ → ℕ → Work

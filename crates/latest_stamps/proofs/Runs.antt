@@ -26,7 +26,8 @@ use Rattle.plans.specs.declared.Node.{Node}
 use Rattle.plans.specs.Layout.{Plan}
 use Rattle.plans.specs.Limits.{noNode}
 use Rattle.passages.specs.declared.Event.{Event}
-use Rattle.emissions.specs.Emissions.{reached}
+use Rattle.emissions.specs.declared.Limit.the-variants.{None}
+use Rattle.emissions.specs.Emissions.{numberOf, reached}
 use Rattle.operators.specs.Turns.{Setting, Turned, settingOf}
 use Rattle.detector.specs.Progress.{Progress, arrivalsOf, closed, eventStep, nodeStep, numbersByPlace, runOf, stampOf, start, turnAt, turned}
 use Rattle.latest_stamps.specs.Written.{All, Kept, Shown, Written}
@@ -79,6 +80,7 @@ module _ (P : Occurrence → Type 0) (s : Setting) (nodes : List Node)
     made = λ l m. ⊎-elim (q .made l) (λ i. subst (All P) (sym (List·Memᴰ·eq-of-singleton i)) (w .emit .made)) (List·Memᴰ·append-cases (p .made) m);
     written = w .emit .written;
     event = inr e;
+    limit = w .emit .limit;
   }
 
   node-keeps : (kind : ℕ) (own : Occurrence) → P own → (i k : ℕ) (p : Progress) → k < length nodes → Fine i p → Fine i (nodeStep s nodes kind own k p)
@@ -109,12 +111,12 @@ module _ (P : Occurrence → Type 0) (s : Setting) (nodes : List Node)
       done = record { limit = p .limit; event = p .event + 1; findings = p .findings; bytes = p .bytes; lefts = p .lefts; rights = p .rights; made = [] }
 
       stays : reached (p .limit) ≡ true → Fine (i + 1) (pick (reached (p .limit)) p done)
-      stays e = rw e (record { lefts = q .lefts; rights = q .rights; made = q .made; written = q .written; event = inl e })
+      stays e = rw e (record { lefts = q .lefts; rights = q .rights; made = q .made; written = q .written; event = inl e; limit = q .limit })
 
       goes : reached (p .limit) ≡ false → Fine (i + 1) (pick (reached (p .limit)) p done)
       goes e =
           let same : p .event ≡ i = ⊎-elim (λ r. absurd (never-both r e)) (λ x. x) (q .event) in
-          rw e (record { lefts = q .lefts; rights = q .rights; made = λ l m. absurd (List·Memᴰ·not-nil m); written = q .written; event = inr (ap (λ x. x + 1) same) })
+          rw e (record { lefts = q .lefts; rights = q .rights; made = λ l m. absurd (List·Memᴰ·not-nil m); written = q .written; event = inr (ap (λ x. x + 1) same); limit = q .limit })
 
   -- an event whose own occurrence has the property
   event-keeps : (i : ℕ) (p : Progress) (e : Event) → P (ofEvent (stampOf e) i) → Fine i p → Fine (i + 1) (eventStep s nodes (length nodes) p e)
@@ -125,7 +127,7 @@ module _ (P : Occurrence → Type 0) (s : Setting) (nodes : List Node)
       next = closed (loop (nodeStep s nodes (e .kind) (ofEvent (stampOf e) (p .event))) (length nodes) 0 p)
 
       stays : reached (p .limit) ≡ true → Fine (i + 1) (pick (reached (p .limit)) p next)
-      stays r = rw r (record { lefts = q .lefts; rights = q .rights; made = q .made; written = q .written; event = inl r })
+      stays r = rw r (record { lefts = q .lefts; rights = q .rights; made = q .made; written = q .written; event = inl r; limit = q .limit })
 
       goes : reached (p .limit) ≡ false → Fine (i + 1) (pick (reached (p .limit)) p next)
       goes r =
@@ -145,13 +147,14 @@ module _ (P : Occurrence → Type 0) (s : Setting) (nodes : List Node)
       (event-keeps i p e (subst (λ n. P (ofEvent (stampOf e) n)) (omega arith) (h 0 (omega arith))) q))
 
   start-keeps : Fine 0 start
-  unfolding start findingsBytes
+  unfolding start findingsBytes numberOf
   start-keeps = record {
     lefts = λ l m. subst (All P) (sym (replicate-of 16 [] m)) (all-none P);
     rights = λ l m. subst (All P) (sym (replicate-of 16 [] m)) (all-none P);
     made = λ l m. absurd (List·Memᴰ·not-nil m);
     written = record { findings = []; many = refl; laid = refl; each = λ f m. absurd (List·Memᴰ·not-nil m) };
     event = inr refl;
+    limit = (None, refl);
   }
 
   run-keeps : (noEvent : Event) (l : List Event) → ((j : ℕ) → j < length l → P (ofEvent (stampOf (getD l j noEvent)) (0 + j)))

@@ -31,7 +31,7 @@ use Rattle.latest_stamps.proofs.Runs.{run-exact}
 
 -- the stamps of an accepted passage have a place each
 module _ (p : Plan) (b : List ℕ) (es : List EventEntry) (ok : PlanOk p) (B : Bytes b) (h : readPassage p b ≡ accepted es) where
-  accepted-placeable : Placeable (map stampOf (passageEvents p b))
+  pub accepted-placeable : Placeable (map stampOf (passageEvents p b))
   accepted-placeable t m =
       let (e, i, same) = map-of stampOf (passageEvents p b) m in
       let few : (e : Event) → e ∈ passageEvents p b → e .logger < 8 =

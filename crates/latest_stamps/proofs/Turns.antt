@@ -23,6 +23,8 @@ use Rattle.contexts.specs.Choice.{andCandidates, chosen, seqCandidates}
 use Rattle.contexts.specs.Made.{madeOf}
 use Rattle.contexts.specs.Table.{Findings, each, together, rowOf}
 use Rattle.plans.specs.declared.Node.{Node}
+use Rattle.emissions.specs.declared.Limit.{Limit}
+use Rattle.emissions.specs.declared.Limit.the-variants.{None, ListFull, NodeFull, OutputFull}
 use Rattle.emissions.specs.Emissions.{Emitting, bytesOf, emitted, emittedAll, ended, numberOf, reached}
 use Rattle.operators.specs.Turns.{Met, Setting, Sides, Turned, afterwards, andArrived, arrived, findingsOf, joinsBy, leftSides, metBy, nodeTurn, orArrived, restOf, rightSides, seqLeft, seqRight, waited}
 use Rattle.latest_stamps.specs.Written.{All, Shown, Written}
@@ -57,6 +59,7 @@ module _ (P : Occurrence → Type 0) (s : Setting) (n : ℕ)
   pub record Emits (e : Emitting) : Type 0 where
     pub made : All P (e .made)
     pub written : Written P (s .loggers) n (e .findings) (e .bytes)
+    pub limit : (l : Limit) × (e .limit ≡ numberOf l)
 
   pub record MetOk (m : Met) : Type 0 where
     pub list : All P (m .list)
@@ -72,8 +75,8 @@ module _ (P : Occurrence → Type 0) (s : Setting) (n : ℕ)
     pub right : All P (t .right)
     pub emit : Emits (t .emit)
 
-  ended-keeps : (e : Emitting) (limit : ℕ) → Emits e → Emits (ended e limit)
-  ended-keeps e limit h = record { made = h .made; written = h .written }
+  ended-keeps : (e : Emitting) (l : Limit) → Emits e → Emits (ended e (numberOf l))
+  ended-keeps e l h = record { made = h .made; written = h .written; limit = (l, refl) }
 
   -- one more finding at the end of the bytes
   written-more : (place count : ℕ) (bytes : List ℕ) (o : Occurrence) → place < n → P o → Written P (s .loggers) n count bytes
@@ -94,11 +97,12 @@ module _ (P : Occurrence → Type 0) (s : Setting) (n : ℕ)
     unfolding emitted
     emitted-keeps e o h k =
         pick-all Emits (reached (e .limit)) _ _ k
-        (pick-all Emits (leb 8 (length (e .made))) _ _ (ended-keeps e _ k)
-        (pick-all Emits (ltb (s .room) _) _ _ (ended-keeps e _ k)
+        (pick-all Emits (leb 8 (length (e .made))) _ _ (ended-keeps e NodeFull k)
+        (pick-all Emits (ltb (s .room) _) _ _ (ended-keeps e OutputFull k)
         (record {
           made = all-append P (e .made) (o ∷ []) (k .made) (all-one P o h);
           written = written-more place (e .findings) (e .bytes) o in-plan h (k .written);
+          limit = (None, refl);
         })))
 
     emittedAll-keeps : (e : Emitting) (l : List Occurrence) → All P l → Emits e → Emits (emittedAll (s .room) (s .loggers) place e l)
@@ -124,7 +128,7 @@ module _ (P : Occurrence → Type 0) (s : Setting) (n : ℕ)
     unfolding waited
     waited-keeps l e o h k q =
         pick-all MetOk (reached (e .limit)) _ _ (record { list = h; emit = q })
-        (pick-all MetOk (isFull l) _ _ (record { list = h; emit = ended-keeps e _ q })
+        (pick-all MetOk (isFull l) _ _ (record { list = h; emit = ended-keeps e ListFull q })
         (record { list = all-append P l (o ∷ []) h (all-one P o k); emit = q }))
 
     and-keeps : (own other : List Occurrence) (e : Emitting) (o : Occurrence) → All P own → All P other → P o → Emits e → SidesOk (andArrived s node place own other e o)
@@ -171,6 +175,6 @@ module _ (P : Occurrence → Type 0) (s : Setting) (n : ℕ)
     turn-keeps left right la ra findings bytes h g k l w =
         fold-all TurnOk (arrived s node place false) ra _
         (fold-all TurnOk (arrived s node place true) la _
-        (record { left = h; right = g; emit = record { made = all-none P; written = w } })
+        (record { left = h; right = g; emit = record { made = all-none P; written = w; limit = (None, refl) } })
         (λ t o m q. arrived-keeps true t o q (k o m)))
         (λ t o m q. arrived-keeps false t o q (l o m))

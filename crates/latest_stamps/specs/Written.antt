@@ -9,7 +9,8 @@ use Rattle.sequences.specs.Members.{_∈_}
 use Rattle.occurrences.specs.declared.Occurrence.{Occurrence}
 use Rattle.detections.specs.Findings.{Finding, findingsBytes}
 use Rattle.detections.specs.Views.{findingOf}
-use Rattle.emissions.specs.Emissions.{reached}
+use Rattle.emissions.specs.declared.Limit.{Limit}
+use Rattle.emissions.specs.Emissions.{numberOf, reached}
 use Rattle.detector.specs.Progress.{Progress}
 
 -- every occurrence of a list has the property
@@ -31,10 +32,11 @@ pub record Written (P : Occurrence → Type 0) (loggers : List ℕ) (n count : �
   pub laid : bytes ≡ findingsBytes findings
   pub each : (f : Finding) → f ∈ findings → Shown P loggers n f
 
--- after i events, or where a limit ended the work
+-- after i events, or where one of the three limits ended the work
 pub record Kept (P : Occurrence → Type 0) (loggers : List ℕ) (n i : ℕ) (p : Progress) : Type 0 where
   pub lefts : (l : List Occurrence) → l ∈ (p .lefts) → All P l
   pub rights : (l : List Occurrence) → l ∈ (p .rights) → All P l
   pub made : (l : List Occurrence) → l ∈ (p .made) → All P l
   pub written : Written P loggers n (p .findings) (p .bytes)
   pub event : (reached (p .limit) ≡ true) ⊎ (p .event ≡ i)
+  pub limit : (l : Limit) × (p .limit ≡ numberOf l)
