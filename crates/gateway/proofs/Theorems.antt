@@ -6,8 +6,8 @@ use mathlib.Core.Path.{_≡_, refl, sym, subst, _∙_}
 use Prim.Native.Nat.{ℕ, _≤_, _<_}
 use native.Mathlib.Omega.{arith}
 use lib.Dec.{eqb}
-use lib.ListN.{length, take}
-use lib.Seq.{take-all}
+use lib.ListN.{drop, length, take}
+use lib.Seq.{take-all, take-append-seam}
 use borrow.Author.Tests.{ne-eqb}
 use Rattle.sequences.specs.Members.{_∈_, SameMembers}
 use Rattle.sequences.specs.Range.{range}
@@ -31,8 +31,9 @@ use Rattle.emissions.specs.Emissions.{numberOf}
 use Rattle.detector.specs.Progress.{numbersByPlace, runOf, stampOf}
 use Rattle.latest_stamps.specs.Written.{Kept}
 use Rattle.latest_stamps.proofs.Theorems.{accepted-exact}
+use Rattle.gateway.specs.declared.Answer.{Answer}
 use Rattle.gateway.specs.Latest.{ExactFinding, LatestExact, WrittenExact, entriesOf, stampsFrom}
-use Rattle.gateway.specs.Working.{answerNumbers, endOf, turnedBack, worked}
+use Rattle.gateway.specs.Working.{Answers, Work, answerNumbers, endOf, turnedBack, worked}
 use Rattle.gateway.proofs.Latest.{shown-exact, stamps-same}
 
 -- the plan is turned back under 1 to 12, or the passage under 21 to 26, or both are accepted and the passage is worked
@@ -141,6 +142,19 @@ module _ (plan passage : List ℕ) (room : ℕ) (B : Bytes plan) (C : Bytes pass
       let w = worked-exact in
       let same : fs ≡ w .findings = findings-told fs (w .findings) fit (λ g i. within-fits g (w .each g i .limits)) (sym e ∙ w .laid) in
       w .each f (subst (λ l. f ∈ l) same m)
+
+-- so it is for the answer and the output of the function, however the work ended
+pub told : (plan passage : List ℕ) (room : ℕ) (out : List ℕ) (r : Answer) (out′ : List ℕ) (w : Work) → Bytes plan → Bytes passage
+    → worked plan passage room ≡ w → Answers w out r out′
+    → Answers (worked plan passage room) out r out′ × LatestExact plan passage (r .findings) (take (r .bytes) out′)
+told plan passage room out r out′ w B C e a =
+    let bytes : take (r .bytes) out′ ≡ w .bytes = rw (a .bytes, a .written) (take-append-seam (w .bytes) (drop (length (w .bytes)) out)) in
+    let exact : LatestExact plan passage (w .findings) (w .bytes) =
+    subst (λ (v : Work). LatestExact plan passage (v .findings) (v .bytes)) e (worked-exact plan passage room B C) in (
+      subst (λ (v : Work). Answers v out r out′) (sym e) a,
+      subst (λ n. LatestExact plan passage n (take (r .bytes) out′)) (sym (a .findings))
+          (subst (LatestExact plan passage (w .findings)) (sym bytes) exact),
+    )
 
 -- two findings of one or two passages under one plan whose events have the same set of stamps carry the same latest stamps
 pub same-latest : (plan passage passage′ : List ℕ) (room room′ : ℕ) → Bytes plan → Bytes passage → Bytes passage′

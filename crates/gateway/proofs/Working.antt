@@ -20,7 +20,7 @@ use Rattle.detector.specs.Progress.{Progress, runOf}
 use Rattle.detector.specs.Steps.{Says}
 use Rattle.detector.specs.declared.Run.{Run}
 use Rattle.gateway.specs.declared.Answer.{Answer}
-use Rattle.gateway.specs.Working.{Answers, Work, endOf, passageWorked, planWorked, turnedBack, worked}
+use Rattle.gateway.specs.Working.{Answers, endOf, passageWorked, planWorked, turnedBack, worked}
 
 module _ (plan passage : List ℕ) (room : ℕ) (r : PlanRead) (read : answerOf r ≡ readPlan plan) where
   pub plan-refused : eqb (planNumber (r .fault)) 0 ≡ false → worked plan passage room ≡ turnedBack (planNumber (r .fault)) (r .place)
@@ -56,6 +56,3 @@ run-answers p out r out′ place number s n k = record {
   bytes = s .bytes;
   written = s .written;
 }
-
-pub answers-are : (w v : Work) (out : List ℕ) (r : Answer) (out′ : List ℕ) → w ≡ v → Answers v out r out′ → Answers w out r out′
-answers-are w v out r out′ e a = rw e a

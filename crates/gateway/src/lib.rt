@@ -2,9 +2,10 @@
 ghost use mathlib.Core.List.{List};
 ghost use mathlib.Core.Path.{_≡_};
 ghost use Prim.Native.Nat.{ℕ};
-ghost use lib.ListN.{length};
+ghost use lib.ListN.{length, take};
 ghost use Rattle.sequences.specs.Choice.{pick};
 ghost use Rattle.emissions.specs.Emissions.{reached};
+ghost use Rattle.gateway.specs.Latest.{LatestExact};
 ghost use Rattle.gateway.specs.Working.{Answers, turnedBack, worked};
 
 // 0, or the number of the fault or limit; its place; the findings, and the bytes they take.
@@ -37,7 +38,8 @@ fn place_of(number: u64, event: usize) -> u64
 
 // Both files are checked whole, the plan first; then the passage's events are worked.
 pub fn work(plan: &[u8], passage: &[u8], output: &mut [u8]) -> Answer
-    ensures { λ r. ⌜ Answers (worked (now (plan .entry)) (now (passage .entry)) (length (now (output .entry)))) (now (output .entry)) r (now (output .exit)) ⌝ }
+    ensures answers { λ r. ⌜ Answers (worked (now (plan .entry)) (now (passage .entry)) (length (now (output .entry)))) (now (output .entry)) r (now (output .exit)) ⌝ }
+    ensures latest { λ r. ⌜ LatestExact (now (plan .entry)) (now (passage .entry)) (r .findings) (take (r .bytes) (now (output .exit))) ⌝ }
 {
     let read = plans::read_plan(plan);
     let plan_fault = read.fault;

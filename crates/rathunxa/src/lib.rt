@@ -1,6 +1,7 @@
 // The C interface: include/rathunxa.h declares these functions. Each only passes its arguments on.
 ghost use mathlib.Core.Path.{_≡_};
-ghost use lib.ListN.{length};
+ghost use lib.ListN.{length, take};
+ghost use Rattle.gateway.specs.Latest.{LatestExact};
 ghost use Rattle.gateway.specs.Working.{Answers, worked};
 ghost use Rattle.open_calls.specs.Answers.{compareAnswer, joinAnswer};
 use gateway::Answer;
@@ -10,7 +11,8 @@ use timestamps::Timestamp;
 
 #[no_mangle]
 pub extern "C" fn rathunxa_work(plan: &[u8], passage: &[u8], output: &mut [u8]) -> Answer
-    ensures { λ r. ⌜ Answers (worked (now (plan .entry)) (now (passage .entry)) (length (now (output .entry)))) (now (output .entry)) r (now (output .exit)) ⌝ }
+    ensures answers { λ r. ⌜ Answers (worked (now (plan .entry)) (now (passage .entry)) (length (now (output .entry)))) (now (output .entry)) r (now (output .exit)) ⌝ }
+    ensures latest { λ r. ⌜ LatestExact (now (plan .entry)) (now (passage .entry)) (r .findings) (take (r .bytes) (now (output .exit))) ⌝ }
 {
     gateway::work(plan, passage, output)
 }

@@ -1,8 +1,11 @@
 -- Turned back, or the run.
-use mathlib.Core.Path.{_≡_, refl, sym, ap, subst, _∙_}
+use mathlib.Core.Path.{sym, ap, _∙_}
 use borrow.Author.Tests.{not-true, not-false}
-use Rattle.gateway.proofs.Working.{both-accepted, passage-refused, plan-refused, run-answers, answers-are}
-use Rattle.gateway.specs.Working.{Answers, turnedBack}
+use native.Mathlib.Omega.{arith}
+use lib.ListN.{length}
+use Rattle.gateway.proofs.Theorems.{told}
+use Rattle.gateway.proofs.Working.{both-accepted, passage-refused, plan-refused, run-answers}
+use Rattle.gateway.specs.Working.{turnedBack}
 use borrow.Author.Needs.{needs}
 use Rattle.gateway.proofs.work.Statement.{statement}
 use Rattle.gateway.proofs.work.Tie as tie
@@ -21,7 +24,13 @@ turned-back-requires c κs = search needs
 
 returns : tie.Need-returns
 returns c =
-    answers-are _ _ _ _ _ (plan-refused _ _ _ (c .before .before .before .before .read-plan .result) (c .before .before .before .before .read-plan .ensures) (sym (c .before .before .before .is-none .ensures) ∙ not-true _ (c .before .before .if1 .taken)) ∙ ap (λ n. turnedBack n (c .before .before .before .before .read-plan .result .place)) (sym (c .before .number .ensures))) (c .turned-back .ensures _)
+    let p = c .before .before .before .before in
+    let start = p .before .before .before .before in
+    told (start .args .plan .now) (start .args .passage .now) (length (start .args .output .now)) _ _ _ _
+    (λ i. omega (arith, p .before .before .before .shared-slice-known .given i)) (λ i. omega (arith, p .before .before .shared-slice-known2 .given i))
+    (plan-refused _ _ _ (p .read-plan .result) (p .read-plan .ensures) (sym (c .before .before .before .is-none .ensures) ∙ not-true _ (c .before .before .if1 .taken))
+    ∙ ap (λ n. turnedBack n (p .read-plan .result .place)) (sym (c .before .number .ensures)))
+    (c .turned-back .ensures _)
 
 check-passage-requires : tie.Need-check-passage-requires
 check-passage-requires c κs = search needs
@@ -37,7 +46,15 @@ turned-back-requires-2 c κs = search needs
 
 returns-2 : tie.Need-returns-2
 returns-2 c =
-    answers-are _ _ _ _ _ (passage-refused _ _ _ (c .before .before .before .before .before .before .before .before .read-plan .result) (c .before .before .before .before .before .before .before .before .read-plan .ensures) (sym (c .before .before .before .before .before .before .before .is-none .ensures) ∙ not-false _ (c .before .before .before .before .before .before .if1 .left)) (c .before .before .before .before .check-passage .result) (c .before .before .before .before .check-passage .ensures) (sym (c .before .before .before .is-none2 .ensures) ∙ not-true _ (c .before .before .if2 .taken)) ∙ ap (λ n. turnedBack n (c .before .before .before .before .check-passage .result .place)) (sym (c .before .number2 .ensures))) (c .turned-back2 .ensures _)
+    let q = c .before .before .before .before in
+    let p = q .before .before .before .before in
+    let start = p .before .before .before .before in
+    told (start .args .plan .now) (start .args .passage .now) (length (start .args .output .now)) _ _ _ _
+    (λ i. omega (arith, p .before .before .before .shared-slice-known .given i)) (λ i. omega (arith, p .before .before .shared-slice-known2 .given i))
+    (passage-refused _ _ _ (p .read-plan .result) (p .read-plan .ensures) (sym (q .before .before .before .is-none .ensures) ∙ not-false _ (q .before .before .if1 .left))
+    (q .check-passage .result) (q .check-passage .ensures) (sym (c .before .before .before .is-none2 .ensures) ∙ not-true _ (c .before .before .if2 .taken))
+    ∙ ap (λ n. turnedBack n (q .check-passage .result .place)) (sym (c .before .number2 .ensures)))
+    (c .turned-back2 .ensures _)
 
 run-events-requires : tie.Need-run-events-requires
 run-events-requires c κs = search needs
@@ -53,7 +70,15 @@ same-length c = search needs
 
 returns-3 : tie.Need-returns-3
 returns-3 c =
-    answers-are _ _ _ _ _ (both-accepted _ _ _ (c .before .before .before .before .before .before .before .before .before .before .before .before .read-plan .result) (c .before .before .before .before .before .before .before .before .before .before .before .before .read-plan .ensures) (sym (c .before .before .before .before .before .before .before .before .before .before .before .is-none .ensures) ∙ not-false _ (c .before .before .before .before .before .before .before .before .before .before .if1 .left)) (c .before .before .before .before .before .before .before .before .check-passage .result) (c .before .before .before .before .before .before .before .before .check-passage .ensures) (sym (c .before .before .before .before .before .before .before .is-none2 .ensures) ∙ not-false _ (c .before .before .before .before .before .before .if2 .left))) (run-answers _ _ _ _ _ _ (c .before .before .before .before .run-events .ensures) (c .before .number-of .ensures) (c .place-of .ensures))
+    let run = c .before .before .before .before in
+    let q = run .before .before .before .before in
+    let p = q .before .before .before .before in
+    let start = p .before .before .before .before in
+    told (start .args .plan .now) (start .args .passage .now) (length (start .args .output .now)) _ _ _ _
+    (λ i. omega (arith, p .before .before .before .shared-slice-known .given i)) (λ i. omega (arith, p .before .before .shared-slice-known2 .given i))
+    (both-accepted _ _ _ (p .read-plan .result) (p .read-plan .ensures) (sym (q .before .before .before .is-none .ensures) ∙ not-false _ (q .before .before .if1 .left))
+    (q .check-passage .result) (q .check-passage .ensures) (sym (run .before .before .before .is-none2 .ensures) ∙ not-false _ (run .before .before .if2 .left)))
+    (run-answers _ _ _ _ _ _ (run .run-events .ensures) (c .before .number-of .ensures) (c .place-of .ensures))
 
 pub work-spec : {M : Type 1} → statement M
 work-spec =
