@@ -1,19 +1,10 @@
 //! The files of examples/. Their README says what each one shows.
 
 use crate::files::{passage_bytes, EventEntry, NodeEntry, PlanFile};
+use crate::files::{AND, CHRONICLE, CONTINUOUS, CUMULATIVE, NODE_INPUT, OR, OUTPUT, RECENT, SEQ};
 use crate::reference;
 use std::path::Path;
 use std::{fs, io};
-
-pub const OUTPUT: usize = 32_768;
-const NODE_INPUT: u16 = 32_768;
-const OR: u8 = 1;
-const AND: u8 = 2;
-const SEQ: u8 = 3;
-const RECENT: u8 = 1;
-const CHRONICLE: u8 = 2;
-const CONTINUOUS: u8 = 3;
-const CUMULATIVE: u8 = 4;
 
 pub struct Example {
     pub name: &'static str,

@@ -2,6 +2,18 @@
 
 use std::fmt;
 
+/// How many output bytes the listing programs lend.
+pub const OUTPUT: usize = 32_768;
+/// What is added to a node's place where a node is an input.
+pub const NODE_INPUT: u16 = 32_768;
+pub const OR: u8 = 1;
+pub const AND: u8 = 2;
+pub const SEQ: u8 = 3;
+pub const RECENT: u8 = 1;
+pub const CHRONICLE: u8 = 2;
+pub const CONTINUOUS: u8 = 3;
+pub const CUMULATIVE: u8 = 4;
+
 #[derive(Clone, Copy)]
 pub struct NodeEntry {
     pub operator: u8,

@@ -9,3 +9,6 @@ mod tests;
 pub use files::{file_case, swept_cases};
 pub use open_calls::{compare_case, composite, entries, join_case, CompareCase, JoinCase};
 pub use random::Random;
+
+/// The largest local tick.
+const MAX_TICK: u64 = (1 << 63) - 1;

@@ -1,9 +1,9 @@
 //! Cases for the two open calls.
 
 use super::random::Random;
+use super::MAX_TICK;
 use crate::interface::Timestamp;
 
-const MAX_TICK: u64 = (1 << 63) - 1;
 const MAX_RATIO: u64 = 1_000_000;
 
 #[derive(Debug)]

@@ -1,69 +1,18 @@
-//! Plans and passages: valid ones, ones at the limits, and spoilt ones.
+//! Valid plans and passages, many of them at a limit.
 
-use super::random::Random;
-use crate::files::{passage_bytes, EventEntry, FileCase, NodeEntry, PlanFile};
-use crate::reference;
-
-const NODE_INPUT: u16 = 32_768;
-const MAX_TICK: u64 = (1 << 63) - 1;
-const OR: u8 = 1;
-const AND: u8 = 2;
-const SEQ: u8 = 3;
+use crate::files::{EventEntry, NodeEntry, PlanFile, AND, CUMULATIVE, NODE_INPUT, OR, RECENT, SEQ};
+use crate::generator::random::Random;
+use crate::generator::MAX_TICK;
 
 type Files = (PlanFile, Vec<EventEntry>);
 
-pub fn file_case(random: &mut Random) -> FileCase {
-    let (mut plan, mut events) = valid_files(random);
-    while random.one_in(6) {
-        spoil_plan(random, &mut plan);
-    }
-    while random.one_in(8) {
-        spoil_events(random, &mut events);
-    }
-    let mut case = FileCase { plan: plan.bytes(), passage: passage_bytes(&events), output: 0 };
-    if random.one_in(6) {
-        spoil_bytes(random, &mut case);
-    }
-    case.output = output_length(random, &case);
-    case
-}
-
-/// One small valid pair: cut at every byte, each byte garbled, bytes left over, every output length up to its end.
-pub fn swept_cases(random: &mut Random) -> Vec<FileCase> {
-    let plan = any_plan(random, 4);
-    let events = any_events(random, &plan, 8);
-    let valid = FileCase { plan: plan.bytes(), passage: passage_bytes(&events), output: 1000 };
-    let mut cases = vec![valid.clone()];
-    let file_of: [fn(&mut FileCase) -> &mut Vec<u8>; 2] = [|case| &mut case.plan, |case| &mut case.passage];
-    for file in file_of {
-        let bytes = file(&mut valid.clone()).clone();
-        let mut forms: Vec<Vec<u8>> = (0..bytes.len()).map(|end| bytes[..end].to_vec()).collect();
-        forms.extend((0..bytes.len()).flat_map(|at| garbled(&bytes, at)));
-        forms.extend((1..14).map(|more| [bytes.clone(), vec![0; more]].concat()));
-        for form in forms {
-            let mut case = valid.clone();
-            *file(&mut case) = form;
-            cases.push(case);
-        }
-    }
-    let end = *detection_ends(&valid).last().unwrap_or(&0);
-    cases.extend((0..end + 4).map(|output| FileCase { output, ..valid.clone() }));
-    cases
-}
-
-fn garbled(bytes: &[u8], at: usize) -> Vec<Vec<u8>> {
-    let old = bytes[at];
-    let values = [0, 1, old ^ 1, old ^ 0x80, old.wrapping_add(1), old.wrapping_sub(1), 0xff];
-    let with = |value: &u8| [&bytes[..at], &[*value], &bytes[at + 1..]].concat();
-    values.iter().map(with).collect()
-}
-
-fn valid_files(random: &mut Random) -> Files {
-    match random.below(10) {
+pub fn valid_files(random: &mut Random) -> Files {
+    match random.below(12) {
         0 => waiting_limit(random),
         1 => detection_limit(random),
         2 => doubling(random),
         3 => gathering(random),
+        4 => nesting(random),
         _ => {
             let nodes = random.pick(&[1, 2, 3, 4, 8, 16]);
             let events = random.pick(&[3, 10, 20, 40, 128]);
@@ -96,7 +45,7 @@ fn any_ratio(random: &mut Random) -> u32 {
     random.pick(&[1, 2, 10, 10, 10, 1000, 1_000_000, any])
 }
 
-fn any_plan(random: &mut Random, most_nodes: u64) -> PlanFile {
+pub fn any_plan(random: &mut Random, most_nodes: u64) -> PlanFile {
     let ratios = vec![any_ratio(random)];
     let loggers = few(random, 4, 8);
     let loggers = rising(random, loggers);
@@ -132,7 +81,7 @@ fn any_node(random: &mut Random, place: u16, kinds: u64, chained: u64) -> NodeEn
 }
 
 /// Events whose global ticks advance slowly, arriving somewhat out of order, with many ties.
-fn any_events(random: &mut Random, plan: &PlanFile, most: u64) -> Vec<EventEntry> {
+pub fn any_events(random: &mut Random, plan: &PlanFile, most: u64) -> Vec<EventEntry> {
     let ratio = u64::from(plan.ratios[0]);
     let last = MAX_TICK / ratio;
     let count = random.between(most / 2, most);
@@ -180,7 +129,7 @@ fn waiting_limit(random: &mut Random) -> Files {
 fn detection_limit(random: &mut Random) -> Files {
     let mut plan = small_plan(random, &[AND, SEQ]);
     if random.one_in(2) {
-        let again = NodeEntry { operator: OR, context: 1, left: NODE_INPUT, right: random.pick(&[1, NODE_INPUT]) };
+        let again = NodeEntry { operator: OR, context: RECENT, left: NODE_INPUT, right: random.pick(&[1, NODE_INPUT]) };
         plan.nodes.push(again);
     }
     let lefts = random.between(3, 10);
@@ -211,7 +160,7 @@ fn doubling(random: &mut Random) -> Files {
 
 /// Cumulative nodes that gather up to all 128 events, of up to all loggers, in one detection.
 fn gathering(random: &mut Random) -> Files {
-    let cumulative = |left, right| NodeEntry { operator: AND, context: 4, left, right };
+    let cumulative = |left, right| NodeEntry { operator: AND, context: CUMULATIVE, left, right };
     let nodes = vec![cumulative(0, 1), cumulative(NODE_INPUT, 2), cumulative(NODE_INPUT + 1, NODE_INPUT)];
     let plan = PlanFile { ratios: vec![10], loggers: (1..9).collect(), kinds: vec![7, 9, 11], nodes };
     let loggers = few(random, 8, 8) as u64;
@@ -231,108 +180,22 @@ fn gathering(random: &mut Random) -> Files {
     (plan, events)
 }
 
-/// Where each detection ends in an output that is long enough.
-fn detection_ends(case: &FileCase) -> Vec<usize> {
-    let mut output = vec![0; 65_536];
-    let answer = reference::work(&case.plan, &case.passage, &mut output);
-    let mut end = 0;
-    let found = reference::detections(&output[..answer.bytes as usize]);
-    let size = |detection: &reference::Detection| 6 + 10 * detection.timestamps.len() + 2 * detection.events.len();
-    found
-        .iter()
-        .map(|detection| {
-            end += size(detection);
-            end
-        })
-        .collect()
-}
-
-/// The listing's 32,768, any small length, or one byte around the end of a detection.
-fn output_length(random: &mut Random, case: &FileCase) -> usize {
-    match random.below(8) {
-        0 => random.below(64) as usize,
-        1 => random.below(800) as usize,
-        2 | 3 => {
-            let mut ends = detection_ends(case);
-            ends.push(1);
-            let most = ends.len().min(40);
-            random.pick(&ends[..most]) + random.below(3) as usize - 1
-        }
-        _ => 32_768,
+/// Sixteen nodes, each fed by the one before, and events that come through to the last now and then.
+fn nesting(random: &mut Random) -> Files {
+    let mut nodes = Vec::new();
+    for place in 0..16 {
+        let context = random.pick(&[1, 2, 3, CUMULATIVE, CUMULATIVE]);
+        let left = if place == 0 { 0 } else { NODE_INPUT + place - 1 };
+        let right = if place > 1 && random.one_in(6) { left - 1 } else { random.pick(&[0, 1]) };
+        nodes.push(NodeEntry { operator: random.pick(&[OR, AND, SEQ, SEQ, SEQ]), context, left, right });
     }
-}
-
-fn spoil_plan(random: &mut Random, plan: &mut PlanFile) {
-    match random.below(6) {
-        0 => plan.ratios = random.pick(&[&[][..], &[10, 10], &[0], &[1_000_001], &[u32::MAX]]).to_vec(),
-        1 => spoil_numbers(random, &mut plan.loggers, 9),
-        2 => spoil_numbers(random, &mut plan.kinds, 33),
-        3 => {
-            let count = random.pick(&[0, 17, 40]);
-            let node = NodeEntry { operator: OR, context: 1, left: 0, right: 0 };
-            plan.nodes.resize(count, node);
-        }
-        _ => spoil_node(random, plan),
-    }
-}
-
-/// Too many, none, or two that do not rise.
-fn spoil_numbers(random: &mut Random, numbers: &mut Vec<u16>, past: usize) {
-    match random.below(4) {
-        0 => numbers.clear(),
-        1 => *numbers = (1..=past as u16).collect(),
-        _ if numbers.len() > 1 => {
-            let i = random.between(1, numbers.len() as u64 - 1) as usize;
-            numbers[i] = numbers[i - 1] - random.below(2).min(u64::from(numbers[i - 1])) as u16;
-        }
-        _ => numbers.extend(numbers.clone()),
-    }
-}
-
-fn spoil_node(random: &mut Random, plan: &mut PlanFile) {
-    if plan.nodes.is_empty() {
-        return;
-    }
-    let place = random.below(plan.nodes.len() as u64) as usize;
-    let itself = NODE_INPUT + place as u16;
-    let input = random.pick(&[plan.kinds.len() as u16, NODE_INPUT - 1, itself, itself + 1, u16::MAX]);
-    let node = &mut plan.nodes[place];
-    match random.below(4) {
-        0 => node.operator = random.pick(&[0, 4, 255]),
-        1 => node.context = random.pick(&[0, 5, 255]),
-        2 => node.left = input,
-        _ => node.right = input,
-    }
-}
-
-fn spoil_events(random: &mut Random, events: &mut Vec<EventEntry>) {
-    if events.is_empty() || random.one_in(4) {
-        let count = random.pick(&[0, 128, 129, 300]);
-        let event = EventEntry { kind: 7, logger: 1, tick: 80 };
-        let event = *events.first().unwrap_or(&event);
-        events.resize(count, event);
-        return;
-    }
-    let i = random.below(events.len() as u64) as usize;
-    let large = random.number() | 1 << 63;
-    match random.below(3) {
-        0 => events[i].kind = random.pick(&[6, 8, 10, 40_000]),
-        1 => events[i].logger = random.pick(&[3, 9, 50, 40_000]),
-        _ => events[i].tick = random.pick(&[1 << 63, u64::MAX, large]),
-    }
-}
-
-/// Cuts a file, garbles one of its bytes, or leaves bytes over.
-fn spoil_bytes(random: &mut Random, case: &mut FileCase) {
-    let file = if random.one_in(2) { &mut case.plan } else { &mut case.passage };
-    let at = random.below(file.len() as u64) as usize;
-    match random.below(3) {
-        0 => file.truncate(at),
-        1 => file[at] = random.number() as u8,
-        _ => {
-            for _ in 0..random.between(1, 14) {
-                file.push(random.number() as u8);
-            }
-        }
-    }
+    let plan = PlanFile { ratios: vec![10], loggers: (1..9).collect(), kinds: vec![7, 9], nodes };
+    let pace = random.pick(&[5, 20, 30]);
+    let event = |i: u64| EventEntry {
+        kind: random.pick(&[7, 9]),
+        logger: random.pick(&[1, 2, 5, 8]),
+        tick: 80 + i * pace + random.below(15),
+    };
+    let events = (0..128).map(event).collect();
+    (plan, events)
 }

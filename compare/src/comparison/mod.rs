@@ -1,0 +1,42 @@
+//! The library and the second implementation on the same cases, up to the first difference.
+
+mod files;
+mod open_calls;
+
+use crate::generator::Random;
+use std::collections::BTreeMap;
+
+/// How often each answer occurred.
+type Totals = BTreeMap<String, u64>;
+
+/// Compares `cases` cases of each open call, `files` pairs of files, and a sweep over some small pairs.
+pub fn run_all(cases: u64, files: u64, seed: u64) -> Result<(), String> {
+    run("join", cases, seed, open_calls::one_join)?;
+    run("compare", cases, seed, open_calls::one_comparison)?;
+    let totals = run("files", files, seed, files::one_pair)?;
+    if files >= files::ENOUGH {
+        files::all_occurred(&totals)?;
+    }
+    files::sweep(seed)?;
+    println!("no difference");
+    Ok(())
+}
+
+/// Runs the cases of one call and prints how often each answer occurred.
+fn run(call: &str, cases: u64, seed: u64, one: fn(&mut Random) -> Result<String, String>) -> Result<Totals, String> {
+    let mut totals = Totals::new();
+    for i in 0..cases {
+        let answer = one(&mut Random::new(seed, i));
+        let answer = answer.map_err(|what| format!("{call}: DIFFERENCE at case {i} of seed {seed}\n{what}"))?;
+        *totals.entry(answer).or_default() += 1;
+    }
+    println!("{call}: {cases} cases, seed {seed}");
+    print_totals(&totals);
+    Ok(totals)
+}
+
+fn print_totals(totals: &Totals) {
+    for (answer, count) in totals {
+        println!("  {answer}: {count}");
+    }
+}
