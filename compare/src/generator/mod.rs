@@ -5,6 +5,8 @@ mod open_calls;
 mod random;
 #[cfg(test)]
 mod tests;
+#[cfg(test)]
+mod tests_of_files;
 
 pub use files::{file_case, swept_cases};
 pub use open_calls::{compare_case, composite, entries, join_case, CompareCase, JoinCase};

@@ -1,6 +1,8 @@
 //! Valid plans and passages, many of them at a limit.
 
-use crate::files::{EventEntry, NodeEntry, PlanFile, AND, CUMULATIVE, NODE_INPUT, OR, RECENT, SEQ};
+use crate::files::{
+    EventEntry, NodeEntry, PlanFile, AND, CHRONICLE, CONTINUOUS, CUMULATIVE, NODE_INPUT, OR, RECENT, SEQ,
+};
 use crate::generator::random::Random;
 use crate::generator::MAX_TICK;
 
@@ -125,14 +127,15 @@ fn waiting_limit(random: &mut Random) -> Files {
     (plan, events)
 }
 
-/// Seven to ten that wait, mostly taken all at once.
+/// Around eight that wait, mostly taken all at once.
 fn detection_limit(random: &mut Random) -> Files {
     let mut plan = small_plan(random, &[AND, SEQ]);
+    plan.nodes[0].context = random.pick(&[RECENT, CHRONICLE, CONTINUOUS, CONTINUOUS, CUMULATIVE]);
     if random.one_in(2) {
         let again = NodeEntry { operator: OR, context: RECENT, left: NODE_INPUT, right: random.pick(&[1, NODE_INPUT]) };
         plan.nodes.push(again);
     }
-    let lefts = random.between(3, 10);
+    let lefts = random.between(4, 10);
     let spread = random.pick(&[1, 10, 20]);
     let mut events = Vec::new();
     for i in 0..lefts {
@@ -184,7 +187,7 @@ fn gathering(random: &mut Random) -> Files {
 fn nesting(random: &mut Random) -> Files {
     let mut nodes = Vec::new();
     for place in 0..16 {
-        let context = random.pick(&[1, 2, 3, CUMULATIVE, CUMULATIVE]);
+        let context = random.pick(&[RECENT, CHRONICLE, CONTINUOUS, CUMULATIVE, CUMULATIVE]);
         let left = if place == 0 { 0 } else { NODE_INPUT + place - 1 };
         let right = if place > 1 && random.one_in(6) { left - 1 } else { random.pick(&[0, 1]) };
         nodes.push(NodeEntry { operator: random.pick(&[OR, AND, SEQ, SEQ, SEQ]), context, left, right });
