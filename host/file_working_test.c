@@ -184,7 +184,7 @@ static void test_waiting(void)
     }
 }
 
-/* D1's finding leaves one waiting, since recent removes only the candidate not taken. 15 more wait; the next gives 31. */
+/* D1's finding leaves one waiting: recent removes only the candidate not taken. 15 more wait, the next gives 31. */
 static void test_findings_before_31(void)
 {
     struct file passage = file_of(ALL(PASSAGE_D));
@@ -224,7 +224,8 @@ static void test_no_bytes(void)
 /* A file cut at every byte gives the place where the piece that is cut begins. */
 static void test_cuts(void)
 {
-    const uint64_t begins[] = {0, 0, 2, 2, 2, 2, 6, 6, 8, 8, 10, 10, 12, 12, 14, 14, 16, 16, 18, 18, 20, 20, 20, 20, 20, 20};
+    const uint64_t begins[] = {0,  0,  2,  2,  2,  2,  6,  6,  8,  8,  10, 10, 12,
+                               12, 14, 14, 16, 16, 18, 18, 20, 20, 20, 20, 20, 20};
     for (size_t end = 0; end < sizeof PLAN_P; end++)
         turns_back("plan cut", end, (struct bytes){PLAN_P, end}, ALL(PASSAGE_D), RATHUNXA_PLAN_INCOMPLETE, begins[end]);
     for (size_t end = 0; end < sizeof PASSAGE_D; end++)
