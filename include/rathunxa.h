@@ -36,6 +36,7 @@
  *  come one after the other, each with its count first, and nothing after the
  *  last one.
  *
+ *  @verbatim
  *    Plan     clocks   1        the ratio, 4 bytes, 1 to 1,000,000
  *             loggers  1 to 8   number, 2 bytes, each above the one before
  *             kinds    1 to 32  number, 2 bytes, each above the one before
@@ -47,20 +48,30 @@
  *    Passage  events   0 to 128 kind number, 2 bytes
  *                               logger number, 2 bytes
  *                               local tick, 8 bytes, 0 to 2^63 - 1
+ *  @endverbatim
  *
  *  An input is the place of a kind in the plan, counted from 0, or 32,768 plus
  *  the place of an earlier node. Events are numbered from 0.
+ *
+ *  OR passes on what comes by either input. AND combines what comes by one
+ *  input with what waits at the other. SEQ combines what comes by the right
+ *  input with what came by the left, waits and is before it. Of those waiting,
+ *  recent takes the latest, chronicle the earliest, and each taken makes a
+ *  finding; continuous takes all and makes a finding of each; cumulative takes
+ *  all and makes one finding of them together.
  *
  *  @section findings A finding in the output
  *
  *  The findings stand one after the other from the output's first byte on, in
  *  the order they were made. Each takes 6 + 10 S + 2 E bytes, at most 342:
  *
+ *  @verbatim
  *    2       place of the node that made it
  *    2       S, how many timestamps, 1 to 8
  *    10 x S  logger number (2) and local tick (8), by rising logger number
  *    2       E, how many events, 1 to 128
  *    2 x E   event numbers, rising
+ *  @endverbatim
  *
  *  @section memory Who owns which memory
  *
