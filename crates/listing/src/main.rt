@@ -7,9 +7,14 @@ use gateway::Answer;
 use libc::STDERR_FILENO;
 use libc::STDOUT_FILENO;
 ghost use Prim.Native.Nat.{_+_, _-_, _≤_, _<_};
-ghost use lib.ListN.{length};
+ghost use lib.ListN.{length, take};
 ghost use mathlib.Core.Path.{_≡_};
 ghost use Rattle.io.specs.Counts.{Counts};
+ghost use Rattle.detections.specs.Writing.{Wrote};
+ghost use Rattle.detections.specs.Views.{answerOf};
+ghost use Rattle.event_sets.specs.Sets.{elements};
+ghost use Rattle.listing.specs.Text.{space, numberText, stampText, listed, lineText, endText};
+ghost use Rattle.listing.specs.Pages.{Fills};
 
 // How many bytes of a file were read, or that reading failed.
 struct FileRead {
@@ -33,7 +38,7 @@ const LAST_START: usize = 13200;
 // The text, from a place of the page on; the place after it.
 fn put_text(page: &mut [u8], at: usize, text: &[u8]) -> usize
     requires { ⌜ at + length (now text) ≤ length (now page) ⌝ }
-    ensures { λ r. ⌜ r ≡ at + length (now (text .entry)) ⌝ }
+    ensures { λ r. ⌜ Wrote (now (page .entry)) at (now (text .entry)) r (now (page .exit)) ⌝ }
 {
     at + bytes::copy(text, &mut page[at..])
 }
@@ -41,7 +46,7 @@ fn put_text(page: &mut [u8], at: usize, text: &[u8]) -> usize
 // A mark and the number in decimal.
 fn put_number(page: &mut [u8], at: usize, mark: u8, n: u64) -> usize
     requires { ⌜ at + 21 ≤ length (now page) ⌝ }
-    ensures { λ r. ⌜ (at < r) × (r ≤ at + 21) ⌝ }
+    ensures { λ r. ⌜ Wrote (now (page .entry)) at (numberText mark n) r (now (page .exit)) × (at < r) × (r ≤ at + 21) ⌝ }
 {
     let mut digits = [0u8; 20];
     let count = io::decimal(n, &mut digits);
@@ -52,7 +57,7 @@ fn put_number(page: &mut [u8], at: usize, mark: u8, n: u64) -> usize
 // A mark and the stamp, as 2:110.
 fn put_stamp(page: &mut [u8], at: usize, mark: u8, s: Stamp) -> usize
     requires { ⌜ at + 42 ≤ length (now page) ⌝ }
-    ensures { λ r. ⌜ (at < r) × (r ≤ at + 42) ⌝ }
+    ensures { λ r. ⌜ Wrote (now (page .entry)) at (stampText mark s) r (now (page .exit)) × (at < r) × (r ≤ at + 42) ⌝ }
 {
     let tick = s.tick;
     let a = put_number(page, at, mark, s.logger);
@@ -62,7 +67,7 @@ fn put_stamp(page: &mut [u8], at: usize, mark: u8, s: Stamp) -> usize
 // The first stamps after a space, each other after a comma.
 fn put_stamps(page: &mut [u8], at: usize, count: usize, stamps: [Stamp; 8]) -> usize
     requires { ⌜ at + 336 ≤ length (now page) ⌝ }
-    ensures { λ r. ⌜ (at ≤ r) × (r ≤ at + 336) ⌝ }
+    ensures { λ r. ⌜ Wrote (now (page .entry)) at (listed stampText space (take count stamps)) r (now (page .exit)) × (at ≤ r) × (r ≤ at + 336) ⌝ }
 {
     let mut to = at;
     let mut mark = b' ';
@@ -82,7 +87,7 @@ fn put_stamps(page: &mut [u8], at: usize, count: usize, stamps: [Stamp; 8]) -> u
 // The first event after a space, each other after a comma.
 fn put_events(page: &mut [u8], at: usize, events: EventSet) -> usize
     requires { ⌜ at + 2688 ≤ length (now page) ⌝ }
-    ensures { λ r. ⌜ (at ≤ r) × (r ≤ at + 2688) ⌝ }
+    ensures { λ r. ⌜ Wrote (now (page .entry)) at (listed numberText space (elements events)) r (now (page .exit)) × (at ≤ r) × (r ≤ at + 2688) ⌝ }
 {
     let mut to = at;
     let mut mark = b' ';
@@ -98,7 +103,7 @@ fn put_events(page: &mut [u8], at: usize, events: EventSet) -> usize
 // A finding's line, as: node 0 at 2:110 from 1,2
 fn put_line(page: &mut [u8], at: usize, f: FindingRead) -> usize
     requires { ⌜ at + 3072 ≤ length (now page) ⌝ }
-    ensures { λ r. ⌜ (at < r) × (r ≤ at + 3072) ⌝ }
+    ensures { λ r. ⌜ Wrote (now (page .entry)) at (lineText (answerOf f .finding)) r (now (page .exit)) × (at < r) × (r ≤ at + 3072) ⌝ }
 {
     let stamps = f.stamps;
     let events = f.events;
@@ -114,7 +119,7 @@ fn put_line(page: &mut [u8], at: usize, f: FindingRead) -> usize
 // The last line, as: end 0 0 1 20
 fn put_end(page: &mut [u8], at: usize, a: Answer) -> usize
     requires { ⌜ at + 88 ≤ length (now page) ⌝ }
-    ensures { λ r. ⌜ r ≤ at + 88 ⌝ }
+    ensures { λ r. ⌜ Wrote (now (page .entry)) at (endText a) r (now (page .exit)) × (r ≤ at + 88) ⌝ }
 {
     let b = put_text(page, at, b"end");
     let c = put_number(page, b, b' ', a.number);
@@ -129,7 +134,7 @@ fn put_end(page: &mut [u8], at: usize, a: Answer) -> usize
 // Lines for the findings from a place on, as many of those left as the page surely holds. Where no finding stands, none is left.
 fn fill(page: &mut [u8], output: &[u8], from: usize, count: u64) -> Filled
     requires { ⌜ length (now page) ≡ 16384 ⌝ }
-    ensures { λ r. ⌜ (r .len ≤ 16272) × (r .left ≤ count - 1) ⌝ }
+    ensures { λ r. ⌜ Fills (now (output .entry)) from count (now (page .exit)) r ⌝ }
 {
     let mut len: usize = 0;
     let mut next = from;

@@ -1,8 +1,9 @@
--- `listing::put_number`: a number of 64 bits has at most 20 digits.
+-- `listing::put_number`: the mark, and then the digits, of which a number of 64 bits has at most 20.
 use mathlib.Core.Path.{_∙_}
-use Rattle.listing.proofs.Digits.{few-digits}
 use native.Mathlib.Omega.{arith}
 use lib.ListN.{length-set}
+use Rattle.listing.proofs.Digits.{few-digits}
+use Rattle.listing.proofs.Pieces.{wrote-number}
 use borrow.Author.Needs.{needs}
 use Rattle.listing.proofs.put_number.Statement.{statement}
 use Rattle.listing.proofs.put_number.Tie as tie
@@ -35,8 +36,12 @@ returns : tie.Need-returns
 returns c =
     let t = c .before .before in
     let d = t .before .before .before in
-    let a = d .before .before .before in
-    omega (arith, few-digits _ _ (a .fits .n .fits) (d .decimal .ensures .1 .0))
+    let s = d .before .before .before in
+    let f = few-digits _ _ (s .fits .n .fits) (d .decimal .ensures .1 .0) in (
+      wrote-number (s .args .mark) (s .args .n) _ (omega arith) (s .fits .n .fits) (d .decimal .ensures .1 .0) (d .decimal .ensures .1 .1) (t .put-text .ensures),
+      omega arith,
+      omega (arith, f),
+    )
 
 pub put-number-spec : {M : Type 1} → statement M
 put-number-spec =

@@ -1,9 +1,9 @@
 -- `listing::read_file`: what is left of the buffer becomes less with each turn.
-use borrow.Author.Needs.{needs}
 use Prim.Native.Nat.{_-_, _≤_}
 use mathlib.Core.Path.{_≡_, sym}
 use lib.ListN.{length}
 use lib.Seq.{length-take-le}
+use borrow.Author.Needs.{needs}
 use Rattle.listing.proofs.read_file.Statement.{statement}
 use Rattle.listing.proofs.read_file.Tie as tie
 
