@@ -66,6 +66,10 @@ lineText f =
     word-node ++ numberText space (f .node) ++ word-at ++ listed stampText space (f .stamps) ++ word-from ++ listed numberText space (f .events)
     ++ line-end
 
+unfoldable pub linesText : List Finding → List ℕ
+linesText [] = []
+linesText (f ∷ fs) = lineText f ++ linesText fs
+
 -- end 0 0 1 20
 unfoldable pub endText : Answer → List ℕ
 endText a =
