@@ -1,5 +1,5 @@
 // Works a passage under a plan, both from their files, and prints a line for each finding and one for the answer, in document
-// 01's form. What goes wrong is said on standard error, and then nothing is printed.
+// 01's form. Of a file that cannot be read it says so on standard error, and prints nothing.
 use detections::FindingRead;
 use detections::Stamp;
 use event_sets::EventSet;
@@ -64,7 +64,7 @@ fn put_stamp(page: &mut [u8], at: usize, mark: u8, s: Stamp) -> usize
     put_number(page, a, b':', tick.0)
 }
 
-// The first stamps after a space, each other after a comma.
+// As many stamps as count says: the first after a space, each other after a comma.
 fn put_stamps(page: &mut [u8], at: usize, count: usize, stamps: [Stamp; 8]) -> usize
     requires { ⌜ at + 336 ≤ length (now page) ⌝ }
     ensures { λ r. ⌜ Wrote (now (page .entry)) at (listed stampText space (take count stamps)) r (now (page .exit)) × (at ≤ r) × (r ≤ at + 336) ⌝ }
@@ -84,7 +84,7 @@ fn put_stamps(page: &mut [u8], at: usize, count: usize, stamps: [Stamp; 8]) -> u
     to
 }
 
-// The first event after a space, each other after a comma.
+// The numbers of the events: the first after a space, each other after a comma.
 fn put_events(page: &mut [u8], at: usize, events: EventSet) -> usize
     requires { ⌜ at + 2688 ≤ length (now page) ⌝ }
     ensures { λ r. ⌜ Wrote (now (page .entry)) at (listed numberText space (elements events)) r (now (page .exit)) × (at ≤ r) × (r ≤ at + 2688) ⌝ }
