@@ -1,4 +1,4 @@
-//! Runs the library and the second implementation on the same cases and ends at the first difference.
+//! Runs the library and the two other implementations on the same cases and ends at the first difference.
 
 use rathunxa_compare::comparison::run_all;
 use rathunxa_compare::examples::write_examples;

@@ -1,7 +1,10 @@
-//! The library and the second implementation on the same cases, up to the first difference.
+//! All implementations on the same cases, up to the first difference.
 
+mod agreement;
 mod files;
 mod open_calls;
+
+pub use agreement::{agreed_comparison, agreed_join, agreed_work};
 
 use crate::generator::Random;
 use std::collections::BTreeMap;
