@@ -24,7 +24,7 @@ pub fn write_examples(folder: &Path) -> io::Result<()> {
     Ok(())
 }
 
-pub fn listing_of(example: &Example) -> String {
+fn listing_of(example: &Example) -> String {
     let mut output = vec![0; OUTPUT];
     let answer = reference::work(&example.plan, &example.passage, &mut output);
     reference::listing(&answer, &output)

@@ -10,5 +10,7 @@ pub mod interface;
 pub mod library;
 pub mod options;
 pub mod reference;
+#[cfg(test)]
+mod tests;
 pub mod timing;
 pub mod tuned;

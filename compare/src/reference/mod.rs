@@ -7,10 +7,6 @@ mod plans;
 mod reader;
 mod refusal;
 mod run;
-#[cfg(test)]
-mod tests;
-#[cfg(test)]
-mod tests_of_files;
 mod timestamps;
 mod work;
 

@@ -1,10 +1,11 @@
 //! D1 to D4, the limits, and the refusals 1 to 26 with their places.
 
-use super::{detections, latest, listing, work, Detection};
-use crate::examples::{examples, listing_of, plan_p};
-use crate::files::{passage_bytes, EventEntry, NodeEntry};
+use crate::comparison::agreed_work;
+use crate::examples::{examples, plan_p};
+use crate::files::{passage_bytes, EventEntry, FileCase, NodeEntry, OUTPUT};
 use crate::generator::{file_case, Random};
 use crate::interface::{Answer, Timestamp};
+use crate::reference::{detections, latest, listing, Detection};
 
 const PLAN_P: [u8; 26] = [0, 1, 0, 0, 0, 10, 0, 2, 0, 1, 0, 2, 0, 2, 0, 7, 0, 9, 0, 1, 3, 1, 0, 0, 0, 1];
 
@@ -17,14 +18,26 @@ fn answer(number: u64, place: u64, findings: u64, bytes: u64) -> Answer {
     Answer { number, place, findings, bytes }
 }
 
+/// What all write to an output of 0xee bytes.
+fn work(plan: &[u8], passage: &[u8], output: &mut [u8]) -> Answer {
+    let case = FileCase { plan: plan.to_vec(), passage: passage.to_vec(), output: output.len() };
+    let (answer, memory) = agreed_work(&case, 0xeeee_eeee_eeee_eeee).expect("all agree");
+    output.copy_from_slice(&memory[..output.len()]);
+    answer
+}
+
 fn worked(plan: &[u8], passage: &[u8]) -> (Answer, Vec<Detection>) {
-    let mut output = [0; 32_768];
+    let mut output = [0; OUTPUT];
     let answer = work(plan, passage, &mut output);
     (answer, detections(&output[..answer.bytes as usize]))
 }
 
 fn listed(name: &str) -> String {
-    listing_of(examples().iter().find(|example| example.name == name).expect("an example of that name"))
+    let all = examples();
+    let example = all.iter().find(|example| example.name == name).expect("an example of that name");
+    let mut output = [0; OUTPUT];
+    let answer = work(&example.plan, &example.passage, &mut output);
+    listing(&answer, &output)
 }
 
 fn last_line(name: &str) -> String {

@@ -1,12 +1,23 @@
 //! The examples J1 to J8 and the refusals of the open calls. Ratio 10; 1:80 is `at(1, 80)`.
 
-use super::{compare, join, latest};
+use crate::comparison::{agreed_comparison, agreed_join};
+use crate::generator::{CompareCase, JoinCase};
 use crate::interface::{Comparison, JoinAnswer, Timestamp};
+use crate::reference::latest;
 
 const BLANK: Timestamp = Timestamp { logger: 255, tick: 0 };
 
 fn at(logger: u8, tick: u64) -> Timestamp {
     Timestamp { logger, tick }
+}
+
+fn join(ratio: u64, list: &[Timestamp]) -> JoinAnswer {
+    agreed_join(&JoinCase { ratio, list: list.to_vec() }).expect("all agree")
+}
+
+fn compare(ratio: u64, first: &[Timestamp], second: &[Timestamp]) -> Comparison {
+    let case = CompareCase { ratio, first: first.to_vec(), second: second.to_vec() };
+    agreed_comparison(&case).expect("all agree")
 }
 
 fn joined(set: &[Timestamp]) -> JoinAnswer {

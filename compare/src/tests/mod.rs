@@ -1,0 +1,4 @@
+//! What every implementation must answer: each call here is one of all of them, which must agree.
+
+mod files;
+mod open_calls;
