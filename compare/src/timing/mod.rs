@@ -1,48 +1,73 @@
-//! The time of the library and of the second implementation on the same inputs.
+//! The time of all implementations on the same inputs, in one table.
 
 mod files;
 mod open_calls;
+mod shapes;
+mod table;
 
 pub use files::time_files;
 pub use open_calls::{time_comparisons, time_joins};
+pub use shapes::{worked_files, Files, Kind, EVENTS, NODES};
+pub use table::{print_heading, Row};
 
 use std::hint::black_box;
-use std::time::Instant;
+use std::time::{Duration, Instant};
 
-/// The same call of both.
-struct Calls<'a, C> {
-    library: &'a mut dyn FnMut(&C),
-    reference: &'a mut dyn FnMut(&C),
+const ROUNDS: usize = 20;
+/// Cases are timed in groups that take about this long, so that few are interrupted.
+const GROUP: Duration = Duration::from_micros(100);
+
+/// One call for each of some cases. The output is lent anew to each.
+struct Task<'a, C> {
+    call: &'a dyn Fn(&C, &mut [u8]),
+    cases: &'a [C],
 }
 
-/// How often the cases are run: the best of the rounds counts.
-#[derive(Clone, Copy)]
-struct Effort {
-    rounds: usize,
+/// Nanoseconds per call of each task: of each group of cases the best of the rounds, in which the tasks take turns.
+fn best_times<C, const N: usize>(tasks: [Task<C>; N], output: &mut [u8]) -> [f64; N] {
+    let mut timed = tasks.map(|task| Timed::new(task, output));
+    for _ in 0..ROUNDS {
+        timed.iter_mut().for_each(|timed| timed.round(output));
+    }
+    timed.map(|timed| timed.per_call())
+}
+
+struct Timed<'a, C> {
+    task: Task<'a, C>,
+    /// How many cases are a group, and how often each group is repeated.
+    size: usize,
     repeats: usize,
+    best: Vec<Duration>,
 }
 
-/// Prints nanoseconds per call of both and their ratio, and gives the ratio back.
-fn report<C>(label: &str, cases: &[C], effort: Effort, calls: Calls<C>) -> f64 {
-    let (mut library, mut reference) = (f64::MAX, f64::MAX);
-    for _ in 0..effort.rounds {
-        library = library.min(time(cases, effort.repeats, calls.library));
-        reference = reference.min(time(cases, effort.repeats, calls.reference));
+impl<'a, C> Timed<'a, C> {
+    fn new(task: Task<'a, C>, output: &mut [u8]) -> Self {
+        let count = task.cases.len();
+        let all = task.time(task.cases, 1, output).max(Duration::from_nanos(1));
+        let calls = (GROUP.as_nanos() as usize * count / all.as_nanos() as usize).max(1);
+        let size = calls.min(count);
+        let best = vec![Duration::MAX; count.div_ceil(size)];
+        Timed { task, size, repeats: calls.div_ceil(size), best }
     }
-    let ratio = library / reference;
-    println!("{label}: library {library:>9.1} ns, reference {reference:>9.1} ns, ratio {ratio:.2}");
-    ratio
-}
 
-fn time<C>(cases: &[C], repeats: usize, call: &mut dyn FnMut(&C)) -> f64 {
-    let began = Instant::now();
-    for _ in 0..repeats {
-        cases.iter().for_each(|case| call(black_box(case)));
+    fn round(&mut self, output: &mut [u8]) {
+        for (best, group) in self.best.iter_mut().zip(self.task.cases.chunks(self.size)) {
+            *best = (*best).min(self.task.time(group, self.repeats, output));
+        }
     }
-    began.elapsed().as_nanos() as f64 / (repeats * cases.len()) as f64
+
+    fn per_call(&self) -> f64 {
+        let whole: Duration = self.best.iter().sum();
+        whole.as_nanos() as f64 / (self.repeats * self.task.cases.len()) as f64
+    }
 }
 
-/// Keeps the compiler from leaving a call out.
-fn hold<T>(answer: T) {
-    black_box(answer);
+impl<C> Task<'_, C> {
+    fn time(&self, group: &[C], repeats: usize, output: &mut [u8]) -> Duration {
+        let began = Instant::now();
+        for _ in 0..repeats {
+            group.iter().for_each(|case| (self.call)(black_box(case), output));
+        }
+        began.elapsed()
+    }
 }

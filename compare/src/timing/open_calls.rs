@@ -1,47 +1,46 @@
 //! Lists of 1, 8 and 128 entries.
 
-use super::{hold, report, Calls, Effort};
+use super::{best_times, Row, Task};
 use crate::generator::{composite, entries, Random};
+use crate::implementations::{Implementation, LIBRARY, REFERENCE, TUNED};
 use crate::interface::Timestamp;
-use crate::{library, reference};
+use std::hint::black_box;
 
 const RATIO: u64 = 10;
 const LISTS: u64 = 64;
-const ROUNDS: usize = 40;
+const COUNTS: [usize; 3] = [1, 8, 128];
 
 type Pair = (Vec<Timestamp>, Vec<Timestamp>);
 
-/// Gives back the ratio for the longest list.
-pub fn time_joins() -> f64 {
-    let mut last = 0.0;
-    for count in [1, 8, 128] {
-        let pairs = pairs(count, |random| entries(random, RATIO, count));
-        let calls = Calls {
-            library: &mut |p: &Pair| hold(library::join(RATIO, &p.0)),
-            reference: &mut |p: &Pair| hold(reference::join(RATIO, &p.0)),
-        };
-        last = report(&label("join", count), &pairs, effort(count), calls);
-    }
-    last
+pub fn time_joins() -> Vec<Row> {
+    let join = |of: &Implementation, (list, _): &Pair| {
+        black_box((of.join)(RATIO, list));
+    };
+    let lists = |count| pairs(count, |random| entries(random, RATIO, count));
+    COUNTS.map(|count| time_lists("join", count, join, lists)).into()
 }
 
-pub fn time_comparisons() {
-    for count in [1, 8, 128] {
-        let pairs = pairs(count, |random| composite(random, RATIO, 100));
-        let calls = Calls {
-            library: &mut |p: &Pair| hold(library::compare(RATIO, &p.0, &p.1)),
-            reference: &mut |p: &Pair| hold(reference::compare(RATIO, &p.0, &p.1)),
-        };
-        report(&label("compare", count), &pairs, effort(count), calls);
-    }
+pub fn time_comparisons() -> Vec<Row> {
+    let compare = |of: &Implementation, (first, second): &Pair| {
+        black_box((of.compare)(RATIO, first, second));
+    };
+    let lists = |count| pairs(count, |random| composite(random, RATIO, 100));
+    COUNTS.map(|count| time_lists("compare", count, compare, lists)).into()
 }
 
-fn label(call: &str, count: usize) -> String {
-    format!("{call:>7} {count:>3} entries")
-}
-
-fn effort(count: usize) -> Effort {
-    Effort { rounds: ROUNDS, repeats: (512 / (count * count)).max(1) }
+fn time_lists(name: &str, count: usize, call: fn(&Implementation, &Pair), lists: impl Fn(usize) -> Vec<Pair>) -> Row {
+    let (whole, half) = (lists(count), lists((count / 2).max(1)));
+    let [library, reference, tuned] =
+        [LIBRARY, REFERENCE, TUNED].map(|of| move |pair: &Pair, _: &mut [u8]| call(&of, pair));
+    let tasks = [
+        Task { call: &library, cases: &whole },
+        Task { call: &reference, cases: &whole },
+        Task { call: &tuned, cases: &whole },
+        Task { call: &library, cases: &half },
+    ];
+    let [library, reference, tuned, half] = best_times(tasks, &mut []);
+    let by_events = (count > 1).then(|| library / half);
+    Row { label: format!("{name:<12} {count:>3} entries"), library, reference, tuned, by_events, by_nodes: None }
 }
 
 /// Pairs of lists of the given length, each made by repeating what `make` gives.

@@ -1,0 +1,111 @@
+//! Plans and passages of a chosen size, all worked to their end.
+
+use crate::files::{passage_bytes, EventEntry, FileCase, NodeEntry, PlanFile};
+use crate::files::{AND, CHRONICLE, CONTINUOUS, CUMULATIVE, NODE_INPUT, OR, OUTPUT, RECENT, SEQ};
+use crate::generator::Random;
+use crate::reference;
+
+const PAIRS: usize = 16;
+const LOGGERS: u16 = 4;
+/// The most of a passage and of a plan.
+pub const EVENTS: usize = 128;
+pub const NODES: usize = 16;
+
+#[derive(Clone, Copy, Debug, PartialEq, Eq)]
+pub enum Kind {
+    /// Most events reach no node.
+    Sparse,
+    /// A few nodes take each event; some wait, some make findings.
+    Typical,
+    /// Every event reaches every node, and what waits is soon consumed.
+    Every,
+}
+
+impl Kind {
+    pub const ALL: [Kind; 3] = [Kind::Sparse, Kind::Typical, Kind::Every];
+
+    pub fn name(self) -> &'static str {
+        match self {
+            Kind::Sparse => "sparse",
+            Kind::Typical => "typical",
+            Kind::Every => "every",
+        }
+    }
+
+    /// How many kinds of event the plan lists, and how many of them nodes take.
+    fn kinds(self) -> (u16, u16) {
+        match self {
+            Kind::Sparse => (32, 4),
+            Kind::Typical => (8, 8),
+            Kind::Every => (2, 2),
+        }
+    }
+}
+
+/// The entries of two files, of which a part can be taken.
+pub struct Files {
+    plan: PlanFile,
+    events: Vec<EventEntry>,
+}
+
+/// Pairs of files of the most events and nodes that no limit ends. So no part of them meets one.
+pub fn worked_files(kind: Kind) -> Vec<Files> {
+    (0..).map(|i| files(&mut Random::new(1, i), kind)).filter(is_worked).take(PAIRS).collect()
+}
+
+fn is_worked(files: &Files) -> bool {
+    let whole = files.part(EVENTS, NODES);
+    reference::work(&whole.plan, &whole.passage, &mut vec![0; OUTPUT]).number == 0
+}
+
+impl Files {
+    /// The first events, under a plan of the first nodes.
+    pub fn part(&self, events: usize, nodes: usize) -> FileCase {
+        let plan = PlanFile { nodes: self.plan.nodes[..nodes].to_vec(), ..self.plan.clone() };
+        FileCase { plan: plan.bytes(), passage: passage_bytes(&self.events[..events]), output: OUTPUT }
+    }
+}
+
+fn files(random: &mut Random, kind: Kind) -> Files {
+    let (listed, taken) = kind.kinds();
+    let nodes = (0..NODES as u16).map(|place| node(random, kind, place, taken)).collect();
+    let plan = PlanFile { ratios: vec![10], loggers: (1..=LOGGERS).collect(), kinds: (1..=listed).collect(), nodes };
+    let kinds = if kind == Kind::Every { balanced(random) } else { any_kinds(random, listed) };
+    let event = |(i, kind): (u64, u16)| EventEntry {
+        kind,
+        logger: 1 + random.below(u64::from(LOGGERS)) as u16,
+        tick: 80 + 20 * i + random.below(30),
+    };
+    let events = (0..).zip(kinds).map(event).collect();
+    Files { plan, events }
+}
+
+/// Two kinds; but where not every event is to reach it, each fourth node takes what the one before makes, and a kind.
+fn node(random: &mut Random, kind: Kind, place: u16, taken: u16) -> NodeEntry {
+    let (contexts, is_fed) = match kind {
+        Kind::Every => (&[CHRONICLE, CONTINUOUS, CUMULATIVE][..], false),
+        _ => (&[RECENT, CHRONICLE, CONTINUOUS, CUMULATIVE][..], place % 4 == 3),
+    };
+    let first = random.below(u64::from(taken)) as u16;
+    NodeEntry {
+        operator: random.pick(&[OR, AND, AND, SEQ, SEQ]),
+        context: random.pick(contexts),
+        left: if is_fed { NODE_INPUT + place - 1 } else { first },
+        right: (first + 1) % taken,
+    }
+}
+
+fn any_kinds(random: &mut Random, listed: u16) -> Vec<u16> {
+    (0..EVENTS).map(|_| 1 + random.below(u64::from(listed)) as u16).collect()
+}
+
+/// One to three of one kind, then as many of the other, and so on.
+fn balanced(random: &mut Random) -> Vec<u16> {
+    let mut kinds = Vec::new();
+    while kinds.len() < EVENTS {
+        let count = random.between(1, 3) as usize;
+        kinds.extend([1, 2].iter().flat_map(|kind| vec![*kind; count]));
+    }
+    kinds.truncate(EVENTS);
+    kinds
+}
