@@ -109,3 +109,41 @@ fn balanced(random: &mut Random) -> Vec<u16> {
     kinds.truncate(EVENTS);
     kinds
 }
+
+#[cfg(test)]
+mod tests {
+    use super::{worked_files, EventEntry, Files, Kind, EVENTS, NODES, OUTPUT};
+    use crate::reference;
+
+    /// How many nodes take an event itself. Kind n has place n - 1.
+    fn takers(files: &Files, event: &EventEntry) -> usize {
+        let takes = |input: u16| input == event.kind - 1;
+        files.plan.nodes.iter().filter(|node| takes(node.left) || takes(node.right)).count()
+    }
+
+    #[test]
+    fn sparse_events_mostly_reach_no_node() {
+        for files in worked_files(Kind::Sparse) {
+            let idle = files.events.iter().filter(|event| takers(&files, event) == 0).count();
+            assert!(idle > EVENTS * 3 / 4, "{idle}");
+        }
+    }
+
+    #[test]
+    fn typical_events_reach_a_few_nodes_and_make_findings() {
+        for files in worked_files(Kind::Typical) {
+            let taken: usize = files.events.iter().map(|event| takers(&files, event)).sum();
+            assert!((2 * EVENTS..6 * EVENTS).contains(&taken), "{taken}");
+            let whole = files.part(EVENTS, NODES);
+            let answer = reference::work(&whole.plan, &whole.passage, &mut [0; OUTPUT]);
+            assert!(answer.findings > 100, "{answer:?}");
+        }
+    }
+
+    #[test]
+    fn every_event_reaches_every_node() {
+        for files in worked_files(Kind::Every) {
+            assert!(files.events.iter().all(|event| takers(&files, event) == NODES));
+        }
+    }
+}

@@ -6,12 +6,11 @@ use crate::interface::{Comparison, JoinAnswer, Timestamp};
 
 const BLANK: Timestamp = Timestamp { logger: 255, tick: 0 };
 
-/// At most one timestamp for each logger.
+/// A composite timestamp.
 struct Composite {
     present: u64,
     ticks: [u64; 8],
-    globals: [u64; 8],
-    /// The lowest and the highest global tick.
+    /// The lowest and the highest global tick, at most 1 apart.
     lowest: u64,
     highest: u64,
 }
@@ -24,21 +23,24 @@ pub fn join(ratio: u64, list: &[Timestamp]) -> JoinAnswer {
 }
 
 pub fn compare(ratio: u64, first: &[Timestamp], second: &[Timestamp]) -> Comparison {
-    match composites(ratio, first, second) {
-        Ok((a, b)) => {
-            let (a_earlier, b_earlier) = (a.has_one_before(&b), b.has_one_before(&a));
-            Comparison {
-                number: 0,
-                place: 0,
-                before: a_earlier && a.is_before(&b),
-                concurrent: !a_earlier && !b_earlier,
-                weakly_before: !b_earlier,
-            }
-        }
-        Err(Fault { number, place }) => {
-            Comparison { number, place: place as u64, before: false, concurrent: false, weakly_before: false }
-        }
+    let (mut a, mut b) = (Composite::new(), Composite::new());
+    if let Err(Fault { number, place }) = read_both(ratio, first, second, [&mut a, &mut b]) {
+        return Comparison { number, place: place as u64, before: false, concurrent: false, weakly_before: false };
     }
+    let (is_a_earlier, is_b_earlier) = (a.has_one_before(&b), b.has_one_before(&a));
+    Comparison {
+        number: 0,
+        place: 0,
+        before: is_a_earlier && a.is_before(&b, ratio),
+        concurrent: !is_a_earlier && !is_b_earlier,
+        weakly_before: !is_b_earlier,
+    }
+}
+
+fn read_both(ratio: u64, first: &[Timestamp], second: &[Timestamp], [a, b]: [&mut Composite; 2]) -> Result<(), Fault> {
+    check_ratio(ratio)?;
+    a.read(ratio, first, 0)?;
+    b.read(ratio, second, first.len())
 }
 
 fn check_ratio(ratio: u64) -> Result<(), Fault> {
@@ -89,23 +91,22 @@ fn joined(ratio: u64, latest: &[Timestamp; 8]) -> [Timestamp; 8] {
     latest.map(|timestamp| if timestamp.tick < first_kept { BLANK } else { timestamp })
 }
 
-fn composites(ratio: u64, first: &[Timestamp], second: &[Timestamp]) -> Result<(Composite, Composite), Fault> {
-    check_ratio(ratio)?;
-    let first_composite = Composite::read(ratio, first, 0)?;
-    Ok((first_composite, Composite::read(ratio, second, first.len())?))
-}
-
 impl Composite {
-    fn read(ratio: u64, list: &[Timestamp], first_place: usize) -> Result<Composite, Fault> {
+    #[inline]
+    fn new() -> Self {
+        Composite { present: 0, ticks: [0; 8], lowest: u64::MAX, highest: 0 }
+    }
+
+    /// Fills a new one from a list.
+    fn read(&mut self, ratio: u64, list: &[Timestamp], first_place: usize) -> Result<(), Fault> {
         check_count(list, first_place)?;
-        let mut read = Composite { present: 0, ticks: [0; 8], globals: [0; 8], lowest: u64::MAX, highest: 0 };
         for (place, entry) in (first_place..).zip(list) {
             let logger = check_entry(entry, place)?;
-            if !read.add(ratio, logger, entry.tick) {
+            if !self.add(ratio, logger, entry.tick) {
                 return Err(Fault { number: 37, place });
             }
         }
-        Ok(read)
+        Ok(())
     }
 
     /// Adds a timestamp, unless one that it holds is not concurrent with it.
@@ -120,15 +121,16 @@ impl Composite {
             return false;
         }
         (self.lowest, self.highest) = (lowest, highest);
-        (self.ticks[logger], self.globals[logger]) = (tick, global);
+        self.ticks[logger] = tick;
         self.present |= 1 << logger;
         true
     }
 
     /// Each timestamp of the other has some timestamp of this one before it.
-    fn is_before(&self, other: &Composite) -> bool {
-        let is_later = |logger: usize| self.lowest + 1 < other.globals[logger] || self.is_earlier_at(other, logger);
-        Bits(other.present).all(is_later)
+    fn is_before(&self, other: &Composite, ratio: u64) -> bool {
+        // The first local tick whose global tick is over the lowest plus 1.
+        let later = (self.lowest + 2) * ratio;
+        Bits(other.present).all(|logger| other.ticks[logger] >= later || self.is_earlier_at(other, logger))
     }
 
     /// Some timestamp of this one is before some timestamp of the other.

@@ -45,25 +45,26 @@ pub struct Plan {
     pub takers_of_node: [u16; 16],
 }
 
-pub fn read_plan(bytes: &[u8]) -> Result<Plan, Fault> {
-    let reader = &mut Reader::new(bytes, 1);
-    let mut plan = Plan {
-        ratio: read_clocks(reader)?,
-        loggers: read_rising(reader, [4, 5])?,
-        kinds: read_rising(reader, [6, 7])?,
-        nodes: Fixed::new(),
-        takers_of_kind: [0; 32],
-        takers_of_node: [0; 16],
-    };
-    for place in 0..reader.count(1, 16, 8)? {
-        let node = read_node(reader, plan.kinds.len() as u16, place)?;
-        plan.add_node(node);
-    }
-    reader.end(12)?;
-    Ok(plan)
-}
-
 impl Plan {
+    #[inline]
+    pub fn new() -> Self {
+        let (loggers, kinds, nodes) = (Fixed::new(), Fixed::new(), Fixed::new());
+        Plan { ratio: 1, loggers, kinds, nodes, takers_of_kind: [0; 32], takers_of_node: [0; 16] }
+    }
+
+    /// Fills a new plan from its file.
+    pub fn read(&mut self, bytes: &[u8]) -> Result<(), Fault> {
+        let reader = &mut Reader::new(bytes, 1);
+        self.ratio = read_clocks(reader)?;
+        read_rising(reader, &mut self.loggers, [4, 5])?;
+        read_rising(reader, &mut self.kinds, [6, 7])?;
+        for place in 0..reader.count(1, 16, 8)? {
+            let node = read_node(reader, self.kinds.len() as u16, place)?;
+            self.add_node(node);
+        }
+        reader.end(12)
+    }
+
     fn add_node(&mut self, node: Node) {
         let itself = 1 << self.nodes.len();
         for input in node.inputs {
@@ -86,8 +87,11 @@ fn read_clocks(reader: &mut Reader) -> Result<u64, Fault> {
 }
 
 /// A section of rising numbers. The first number turns back its count, the second an entry.
-fn read_rising<const N: usize>(reader: &mut Reader, [of_count, of_entry]: [u64; 2]) -> Result<Fixed<u16, N>, Fault> {
-    let mut numbers: Fixed<u16, N> = Fixed::new();
+fn read_rising<const N: usize>(
+    reader: &mut Reader,
+    numbers: &mut Fixed<u16, N>,
+    [of_count, of_entry]: [u64; 2],
+) -> Result<(), Fault> {
     for _ in 0..reader.count(1, N as u16, of_count)? {
         let place = reader.at;
         let number = u16::from_be_bytes(*reader.piece()?);
@@ -96,7 +100,7 @@ fn read_rising<const N: usize>(reader: &mut Reader, [of_count, of_entry]: [u64; 
         }
         numbers.push(number);
     }
-    Ok(numbers)
+    Ok(())
 }
 
 fn read_node(reader: &mut Reader, kinds: u16, earlier: u16) -> Result<Node, Fault> {
