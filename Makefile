@@ -49,7 +49,7 @@ profile: $(LIBRARY)
 	mkdir -p $(dir $(PROFILE))
 	valgrind --quiet --tool=callgrind --toggle-collect=rathunxa_work --callgrind-out-file=$(PROFILE) \
 	  target/cargo/release/profile $(EVENTS) $(NODES) $(KIND) $(REPEATS)
-	@callgrind_annotate --auto=no $(PROFILE) | sed -n '/PROGRAM TOTALS/p; /file:function/,$$p' | sed 's, \[/.*\],,' | head -n 25
+	@callgrind_annotate --auto=no --threshold=99.99 $(PROFILE) | sed -n '/PROGRAM TOTALS/p; /file:function/,$$p' | sed 's, \[/.*\],,' | head -n 25
 
 examples: $(LIBRARY)
 	$(CARGO_RUN) --bin compare -- --write-examples examples
