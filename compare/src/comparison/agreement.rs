@@ -22,7 +22,7 @@ pub fn agreed_comparison(case: &CompareCase) -> Result<Comparison, String> {
 /// The output holds the pattern before each call. Its bytes past the written ones and the guard must still hold it.
 pub fn agreed_work(case: &FileCase, pattern: u64) -> Result<Outcome, String> {
     let outcomes = ALL.map(|each| outcome(&each, case, pattern));
-    let answer = agreed(case, [0, 1, 2].map(|i| outcomes[i].0))?;
+    let answer = agreed(case, outcomes.each_ref().map(|(answer, _)| *answer))?;
     let [(_, first), others @ ..] = &outcomes;
     for (each, (_, other)) in ALL[1..].iter().zip(others) {
         if let Some(place) = first.iter().zip(other).position(|(one, other)| one != other) {
