@@ -3,6 +3,7 @@
 
 pub mod comparison;
 pub mod examples;
+pub mod exhaustive;
 pub mod files;
 pub mod generator;
 pub mod implementations;
