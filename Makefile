@@ -6,6 +6,8 @@ EVENTS ?= 128
 NODES ?= 16
 KIND ?= typical
 REPEATS ?= 1
+SECONDS ?= 60
+SHARE ?= 1
 
 LIBRARY := target/staticlib/librathunxa.a
 HOST := target/host/rathunxa-host
@@ -15,7 +17,7 @@ CARGO_FLAGS := --quiet --release --offline --locked --manifest-path compare/Carg
 CARGO_RUN := CARGO_TARGET_DIR=target/cargo cargo run $(CARGO_FLAGS)
 PROFILE := target/profile/callgrind.out
 
-.PHONY: help test listing host compare bench profile examples
+.PHONY: help test listing host compare exhaustive fuzz bench profile examples
 
 help:
 	@echo 'make test            the gate: all proofs and all tests (.ci/run)'
@@ -23,6 +25,9 @@ help:
 	@echo 'make host            builds the C host, $(HOST) PLAN PASSAGE'
 	@echo 'make compare CASES=N FILES=N SEED=S'
 	@echo '                     the library against the two other implementations: N cases of each open call, N pairs of files'
+	@echo 'make exhaustive SHARE=K'
+	@echo '                     both on every passage of up to four events, or on one in K'
+	@echo 'make fuzz SECONDS=N  both on altered files, steered by coverage (fuzz/README.md)'
 	@echo 'make bench           the time of all three on the same inputs; STRICT=--strict fails where the library is too slow'
 	@echo 'make profile EVENTS=N NODES=N KIND=sparse|typical|every REPEATS=N'
 	@echo '                     the instructions of the library by function, counted by callgrind'
@@ -39,6 +44,12 @@ host: $(HOST)
 
 compare: $(LIBRARY)
 	$(CARGO_RUN) --bin compare -- --cases $(CASES) --files $(FILES) --seed $(SEED)
+
+exhaustive: $(LIBRARY)
+	$(CARGO_RUN) --bin exhaustive -- --share $(SHARE)
+
+fuzz: $(LIBRARY)
+	fuzz/run -max_total_time=$(SECONDS)
 
 bench: $(LIBRARY)
 	$(CARGO_RUN) --bin bench -- $(STRICT)
