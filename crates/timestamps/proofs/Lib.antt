@@ -5,4 +5,5 @@ pub mod Join
 pub mod Maxima
 pub mod Order
 pub mod Relations
+pub mod Spans
 pub mod Steps

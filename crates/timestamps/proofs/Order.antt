@@ -60,6 +60,13 @@ quotient-le ratio a b h = elim (decLt 0 ratio) [
   | no p ↦ (let z : ratio ≡ 0 = omega arith in rw (z, div-zero a, div-zero b) (omega arith))
 ]
 
+-- on one clock a global tick that is clearly less is of a smaller local tick
+pub clear-less : (ratio a b : ℕ) → a / ratio + 1 < b / ratio → a < b
+clear-less ratio a b h = elim (decLt a b) [
+  | yes l ↦ l
+  | no l ↦ absurd (let g : b / ratio ≤ a / ratio = quotient-le ratio b a (omega arith) in omega arith)
+]
+
 pub before-trans : (ratio : ℕ) (s t u : Timestamp) → before ratio s t ≡ true → before ratio t u ≡ true → before ratio s u ≡ true
 before-trans ratio s t u p q = before-is ratio s u (go (before-says ratio s t p) (before-says ratio t u q))
   where
@@ -70,10 +77,7 @@ before-trans ratio s t u p q = before-is ratio s u (go (before-says ratio s t p)
     go (two-clocks n h) (one-clock f k) =
         two-clocks (λ x. n (x ∙ sym f)) (let g : t .tick .0 / ratio ≤ u .tick .0 / ratio = quotient-le ratio _ _ (omega arith) in omega arith)
     go (two-clocks n h) (two-clocks m k) = elim (ℕ-discrete (s .logger) (u .logger)) [
-      | yes e ↦ one-clock e (elim (decLt (s .tick .0) (u .tick .0)) [
-        | yes l ↦ l
-        | no l ↦ absurd (let g : u .tick .0 / ratio ≤ s .tick .0 / ratio = quotient-le ratio _ _ (omega arith) in omega arith)
-      ])
+      | yes e ↦ one-clock e (clear-less ratio (s .tick .0) (u .tick .0) (omega arith))
       | no d ↦ two-clocks d (omega arith)
     ]
 

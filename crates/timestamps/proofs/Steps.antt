@@ -19,53 +19,19 @@ use Rattle.timestamps.specs.declared.Timestamp.{Timestamp}
 use Rattle.timestamps.specs.declared.CompositeTimestamp.{CompositeTimestamp}
 use Rattle.timestamps.specs.declared.Met.{Met}
 use Rattle.timestamps.specs.declared.Relation.{Relation}
+use Rattle.timestamps.specs.declared.Span.{Span}
 use Rattle.timestamps.specs.Comparison.{allBefore, allConcurrent, weaklyBefore, relationOf}
 use Rattle.timestamps.specs.Composite.{loggerPlaces, members, presentAt, stampAt, tickZero}
 use Rattle.timestamps.specs.Join.{joinOf}
 use Rattle.timestamps.specs.Order.{before, concurrent}
-use Rattle.timestamps.specs.Steps.{metIn, metAt, relatedAt, relatedTo, addedTo, addedAt, latestIn, maximalAt}
+use Rattle.timestamps.specs.Steps.{metIn, relatedAt, relatedTo, addedTo, addedAt, latestIn, maximalAt, maximalBy, metBy, spanOf}
+use Rattle.timestamps.proofs.Spans.{any-members, met-by, met-is}
 use Rattle.timestamps.proofs.Join.{Sized, joinOf-latest, joinOf-places, members-placeable}
 
 -- ---- a test over a composite's members, as one over the places
-any-members : (p : Timestamp → Bool) (c : CompositeTimestamp) → any p (members c) ≡ any (λ k. presentAt c k && p (stampAt c k)) loggerPlaces
-unfolding members
-any-members p c = any-map p (stampAt c) (filter (presentAt c) loggerPlaces) ∙ any-filter (λ k. p (stampAt c k)) (presentAt c) loggerPlaces
-
 all-members : (p : Timestamp → Bool) (c : CompositeTimestamp) → all p (members c) ≡ all (λ k. not (presentAt c k) || p (stampAt c k)) loggerPlaces
 unfolding members
 all-members p c = all-map p (stampAt c) (filter (presentAt c) loggerPlaces) ∙ all-filter (λ k. p (stampAt c k)) (presentAt c) loggerPlaces
-
--- ---- one timestamp against a composite
-module _ (ratio : ℕ) (c : CompositeTimestamp) (s : Timestamp) where
-  unfoldable pub metFrom : Met → ℕ → Met
-  metFrom m k = record {
-    earlier = m .earlier || any (λ j. presentAt c j && before ratio (stampAt c j) s) (range k (8 - k));
-    later = m .later || any (λ j. presentAt c j && before ratio s (stampAt c j)) (range k (8 - k));
-  }
-
-  pub met-start : metFrom (record { earlier = false; later = false }) 0 ≡ metIn ratio c s
-  unfolding metIn metFrom
-  met-start = λ i. record { earlier = sym (any-members (λ m. before ratio m s) c) i; later = sym (any-members (before ratio s) c) i }
-
-  met-fields : (m : Met) (k : ℕ) → metAt ratio c s m k
-      ≡ record { earlier = m .earlier || (presentAt c k && before ratio (stampAt c k) s); later = m .later || (presentAt c k && before ratio s (stampAt c k)) }
-  unfolding metAt
-  met-fields m k = go (presentAt c k) m (before ratio (stampAt c k) s) (before ratio s (stampAt c k))
-    where
-      go : (b : Bool) (m : Met) (x y : Bool) → pick b (record { earlier = m .earlier || x; later = m .later || y }) m ≡ record { earlier = m .earlier || (b && x); later = m .later || (b && y) }
-      go true m x y = refl
-      go false m x y = λ i. record { earlier = sym (or-false (m .earlier)) i; later = sym (or-false (m .later)) i }
-
-  pub met-turn : (m m′ : Met) (k : ℕ) → k < 8 → m′ ≡ metAt ratio c s m k → metFrom m′ (k + 1) ≡ metFrom m k
-  unfolding metFrom
-  met-turn m m′ k h e = rw (e, met-fields m k) (λ i. record {
-    earlier = any-turn (λ j. presentAt c j && before ratio (stampAt c j) s) 8 k (m .earlier) h i;
-    later = any-turn (λ j. presentAt c j && before ratio s (stampAt c j)) 8 k (m .later) h i;
-  })
-
-  pub met-end : (m : Met) (k : ℕ) → 8 ≤ k → m ≡ metFrom m k
-  unfolding metFrom
-  met-end m k h = λ i. record { earlier = sym (any-done (λ j. presentAt c j && before ratio (stampAt c j) s) 8 k (m .earlier) h) i; later = sym (any-done (λ j. presentAt c j && before ratio s (stampAt c j)) 8 k (m .later) h) i }
 
 -- ---- one composite against another
 module _ (ratio : ℕ) (a b : CompositeTimestamp) where
@@ -100,10 +66,10 @@ module _ (ratio : ℕ) (a b : CompositeTimestamp) where
     «weakly_before» = sym (sym (all-not (λ t. any (before ratio t) (members a)) (members b)) ∙ all-members (λ t. not (any (before ratio t) (members a))) b) i;
   }
 
-  related-fields : (r : Relation) (k : ℕ) → relatedAt ratio a b r k
+  related-fields : (r : Relation) (k : ℕ) → relatedAt ratio (spanOf ratio a) a b r k
       ≡ record { before = r .before && earlierAt k; concurrent = r .concurrent && apartAt k; «weakly_before» = r .«weakly_before» && notLaterAt k }
   unfolding relatedAt metIn
-  related-fields r k = go (presentAt b k) r (metIn ratio a (stampAt b k))
+  related-fields r k = ap (λ m. pick (presentAt b k) (relatedTo r m) r) (met-by ratio a (stampAt b k)) ∙ go (presentAt b k) r (metIn ratio a (stampAt b k))
     where
       go : (p : Bool) (r : Relation) (m : Met) → pick p (relatedTo r m) r ≡ record {
         before = r .before && (not p || m .earlier);
@@ -113,9 +79,9 @@ module _ (ratio : ℕ) (a b : CompositeTimestamp) where
       go true r m = refl
       go false r m = λ i. record { before = sym (and-true (r .before)) i; concurrent = sym (and-true (r .concurrent)) i; «weakly_before» = sym (and-true (r .«weakly_before»)) i }
 
-  pub related-turn : (r r′ : Relation) (k : ℕ) → k < 8 → r′ ≡ relatedAt ratio a b r k → relatedFrom r′ (k + 1) ≡ relatedFrom r k
+  pub related-turn : (x : Span) (r r′ : Relation) (k : ℕ) → k < 8 → x ≡ spanOf ratio a → r′ ≡ relatedAt ratio x a b r k → relatedFrom r′ (k + 1) ≡ relatedFrom r k
   unfolding relatedFrom
-  related-turn r r′ k h e = rw (e, related-fields r k) (λ i. record {
+  related-turn x r r′ k h q e = rw (e, q, related-fields r k) (λ i. record {
     before = all-turn earlierAt 8 k (r .before) h i;
     concurrent = all-turn apartAt 8 k (r .concurrent) h i;
     «weakly_before» = all-turn notLaterAt 8 k (r .«weakly_before») h i;
@@ -156,10 +122,9 @@ module _ {B : Type 0} (z : B) (f : ℕ → B) where
       e ∙ fill-map-end 8 z f loggerPlaces k (omega arith) ∙ rw (length-map loggerPlaces f, n) (append-nil (map f loggerPlaces))
 
 -- a place's timestamp is one of the join's
-pub maximal-is : (ratio : ℕ) (c : CompositeTimestamp) (k : ℕ) (s : Timestamp) (m : Met) → presentAt c k ≡ true → s ≡ stampAt c k → m ≡ metIn ratio c s
-    → not (m .later) ≡ maximalAt ratio c k
-unfolding metIn maximalAt
-maximal-is ratio c k s m p e f = rw (p, f, e)
+pub maximal-is : (ratio : ℕ) (c : CompositeTimestamp) (k : ℕ) (x : Span) (b : Bool) → x ≡ spanOf ratio c → b ≡ maximalBy ratio x c k → b ≡ maximalAt ratio c k
+unfolding maximalBy maximalAt metIn
+maximal-is ratio c k x b e f = f ∙ ap (λ (m : Met). presentAt c k && not (m .later)) (met-is ratio c (stampAt c k) x (metBy ratio x c (stampAt c k)) e refl)
 
 -- and so is its tick
 pub tick-kept : (ratio : ℕ) (c : CompositeTimestamp) (k : ℕ) (b : Bool) (t : LocalTick) → b ≡ maximalAt ratio c k → t ≡ pick b (stampAt c k .tick) tickZero

@@ -8,7 +8,7 @@ ghost use Rattle.sequences.specs.Choice.{pick};
 ghost use Rattle.timestamps.specs.Comparison.{relationOf};
 ghost use Rattle.timestamps.specs.Composite.{compositeOf, members, noTimestamps, stampAt, tickZero};
 ghost use Rattle.timestamps.specs.Join.{joinOf};
-ghost use Rattle.timestamps.specs.Steps.{addedAt, addedTo, latestIn, maximalAt, metAt, metIn, news, placed, relatedAt, relatedTo};
+ghost use Rattle.timestamps.specs.Steps.{addedAt, addedTo, latestIn, maximalBy, metBy, metIn, metOwn, news, placed, relatedAt, relatedTo, spanAt, spanOf, widenedTo};
 ghost use Rattle.timestamps.specs.Order.{before, blank, clearlyEarlier, globalOf, valid, validRatio};
 
 // ---- timestamps
@@ -126,6 +126,13 @@ pub struct Met {
     pub later: bool,
 }
 
+// The lowest and the highest global tick of a composite's timestamps, where it has some.
+pub struct Span {
+    pub some: bool,
+    pub lowest: GlobalTick,
+    pub highest: GlobalTick,
+}
+
 // How one composite stands to another, by document 01's three words.
 pub struct Relation {
     pub before: bool,
@@ -187,32 +194,104 @@ fn add_at(c: CompositeTimestamp, b: CompositeTimestamp, k: usize) -> CompositeTi
     }
 }
 
-fn meet_at(m: Met, c: CompositeTimestamp, s: Timestamp, k: usize, ratio: u64) -> Met
-    requires { ⌜ k < 8 ⌝ }
-    ensures { λ r. ⌜ r ≡ metAt ratio c s m k ⌝ }
+fn lower(some: bool, low: GlobalTick, g: GlobalTick) -> GlobalTick
+    ensures { λ r. ⌜ r ≡ pick some (pick (ltb (g .0) (low .0)) g low) g ⌝ }
 {
-    if c.present[k] {
-        let t = stamp_at(c, k);
-        let e = t.before(s, ratio);
-        let l = s.before(t, ratio);
-        let earlier = either(m.earlier, e);
-        let later = either(m.later, l);
-        Met {
-            earlier: earlier,
-            later: later,
-        }
+    if some {
+        if g.0 < low.0 { g } else { low }
     } else {
-        m
+        g
     }
 }
 
-fn is_maximal(c: CompositeTimestamp, k: usize, ratio: u64) -> bool
+fn higher(some: bool, high: GlobalTick, g: GlobalTick) -> GlobalTick
+    ensures { λ r. ⌜ r ≡ pick some (pick (ltb (high .0) (g .0)) g high) g ⌝ }
+{
+    if some {
+        if high.0 < g.0 { g } else { high }
+    } else {
+        g
+    }
+}
+
+// A span with one global tick more.
+fn widened(x: Span, g: GlobalTick) -> Span
+    ensures { λ r. ⌜ r ≡ widenedTo x g ⌝ }
+{
+    let low = x.lowest;
+    let high = x.highest;
+    let lowest = lower(x.some, low, g);
+    let highest = higher(x.some, high, g);
+    Span {
+        some: true,
+        lowest: lowest,
+        highest: highest,
+    }
+}
+
+// The span with the timestamp at place k, if there is one.
+fn span_at(x: Span, c: CompositeTimestamp, k: usize, ratio: u64) -> Span
     requires { ⌜ k < 8 ⌝ }
-    ensures { λ r. ⌜ r ≡ maximalAt ratio c k ⌝ }
+    ensures { λ r. ⌜ r ≡ spanAt ratio c x k ⌝ }
+{
+    if c.present[k] {
+        let t = c.ticks[k];
+        let g = t.global(ratio);
+        widened(x, g)
+    } else {
+        x
+    }
+}
+
+// What the composite has of the logger of s: one that is earlier, one that is later.
+fn meet_own(c: CompositeTimestamp, s: Timestamp) -> Met
+    ensures { λ r. ⌜ r ≡ metOwn c s ⌝ }
+{
+    if s.logger < 8 {
+        let k = s.logger as usize;
+        let held = c.present[k];
+        let t = c.ticks[k];
+        let u = s.tick;
+        let earlier = both(held, t.earlier(u));
+        let later = both(held, u.earlier(t));
+        return Met {
+            earlier: earlier,
+            later: later,
+        };
+    }
+    Met {
+        earlier: false,
+        later: false,
+    }
+}
+
+// Whether some timestamp of c, whose span is x, is before s, and whether s is before some: of other loggers the lowest and the
+// highest decide.
+fn meet_by(x: Span, c: CompositeTimestamp, s: Timestamp, ratio: u64) -> Met
+    ensures { λ r. ⌜ r ≡ metBy ratio x c s ⌝ }
+{
+    let t = s.tick;
+    let g = t.global(ratio);
+    let low = x.lowest;
+    let high = x.highest;
+    let own = meet_own(c, s);
+    let below = both(x.some, low.clearly_earlier(g));
+    let above = both(x.some, g.clearly_earlier(high));
+    let earlier = either(below, own.earlier);
+    let later = either(above, own.later);
+    Met {
+        earlier: earlier,
+        later: later,
+    }
+}
+
+fn is_maximal(x: Span, c: CompositeTimestamp, k: usize, ratio: u64) -> bool
+    requires { ⌜ k < 8 ⌝ }
+    ensures { λ r. ⌜ r ≡ maximalBy ratio x c k ⌝ }
 {
     if c.present[k] {
         let s = stamp_at(c, k);
-        let m = c.meet(s, ratio);
+        let m = meet_by(x, c, s, ratio);
         !m.later
     } else {
         false
@@ -241,17 +320,18 @@ fn relate(r: Relation, m: Met) -> Relation
 
 fn relate_at(
     r: Relation,
+    x: Span,
     a: CompositeTimestamp,
     b: CompositeTimestamp,
     k: usize,
     ratio: u64,
 ) -> Relation
     requires { ⌜ k < 8 ⌝ }
-    ensures { λ q. ⌜ q ≡ relatedAt ratio a b r k ⌝ }
+    ensures { λ q. ⌜ q ≡ relatedAt ratio x a b r k ⌝ }
 {
     if b.present[k] {
         let s = stamp_at(b, k);
-        let m = a.meet(s, ratio);
+        let m = meet_by(x, a, s, ratio);
         relate(r, m)
     } else {
         r
@@ -298,32 +378,43 @@ impl CompositeTimestamp {
         c
     }
 
+    // The lowest and the highest global tick.
+    pub fn span(self, ratio: u64) -> Span
+        ensures { λ r. ⌜ r ≡ spanOf ratio self ⌝ }
+    {
+        let zero = GlobalTick(0);
+        let mut x = Span {
+            some: false,
+            lowest: zero,
+            highest: zero,
+        };
+        let mut k: usize = 0;
+        while k < 8 {
+            x = span_at(x, self, k, ratio);
+            k = k + 1;
+        }
+        x
+    }
+
     // Whether some timestamp here is before s, and whether s is before some.
     pub fn meet(self, s: Timestamp, ratio: u64) -> Met
         ensures { λ r. ⌜ r ≡ metIn ratio self s ⌝ }
     {
-        let mut m = Met {
-            earlier: false,
-            later: false,
-        };
-        let mut k: usize = 0;
-        while k < 8 {
-            m = meet_at(m, self, s, k, ratio);
-            k = k + 1;
-        }
-        m
+        let x = self.span(ratio);
+        meet_by(x, self, s, ratio)
     }
 
     // The join of these timestamps: those that are before no other.
     pub fn settled(self, ratio: u64) -> CompositeTimestamp
         ensures { λ r. ⌜ r ≡ joinOf ratio (members self) ⌝ }
     {
+        let x = self.span(ratio);
         let mut present = [false; 8];
         let mut ticks = [LocalTick(0); 8];
         let mut k: usize = 0;
         while k < 8 {
             let t = self.ticks[k];
-            let keep = is_maximal(self, k, ratio);
+            let keep = is_maximal(x, self, k, ratio);
             present[k] = keep;
             ticks[k] = tick_if(keep, t);
             k = k + 1;
@@ -346,6 +437,7 @@ impl CompositeTimestamp {
     pub fn compared(self, b: CompositeTimestamp, ratio: u64) -> Relation
         ensures { λ r. ⌜ r ≡ relationOf ratio (members self) (members b) ⌝ }
     {
+        let x = self.span(ratio);
         let mut r = Relation {
             before: true,
             concurrent: true,
@@ -353,7 +445,7 @@ impl CompositeTimestamp {
         };
         let mut k: usize = 0;
         while k < 8 {
-            r = relate_at(r, self, b, k, ratio);
+            r = relate_at(r, x, self, b, k, ratio);
             k = k + 1;
         }
         r

@@ -6,18 +6,21 @@ use Rattle.timestamps.specs.Steps.{maximalAt}
 use mathlib.Core.Bool.{Bool, false}
 use Rattle.sequences.specs.Choice.{pick}
 use Rattle.timestamps.specs.Composite.{stampAt, tickZero}
-use Rattle.timestamps.proofs.Steps.{filledTo, filled-start, filled-turn, filled-end, settled-is, tick-kept}
+use Rattle.timestamps.proofs.Steps.{filledTo, filled-start, filled-turn, filled-end, maximal-is, settled-is, tick-kept}
 use Rattle.timestamps.proofs.CompositeTimestamp.settled.Statement.{statement}
 use Rattle.timestamps.proofs.CompositeTimestamp.settled.Tie as tie
 
 abbrev Inv-loop : tie.InvT-loop
-Inv-loop ratio self present₀ ticks₀ k₀ present ticks k = (k ≤ 8) × (present ≡ filledTo false (maximalAt ratio self) k) × (ticks ≡ filledTo tickZero (λ j. pick (maximalAt ratio self j) (stampAt self j .tick) tickZero) k)
+Inv-loop ratio self x present₀ ticks₀ k₀ present ticks k = (k ≤ 8) × (present ≡ filledTo false (maximalAt ratio self) k) × (ticks ≡ filledTo tickZero (λ j. pick (maximalAt ratio self j) (stampAt self j .tick) tickZero) k)
 
 abbrev μ-loop : tie.MeasureT-loop
-μ-loop ratio self present₀ ticks₀ k₀ present ticks k = 8 - k
+μ-loop ratio self x present₀ ticks₀ k₀ present ticks k = 8 - k
 
 loop-holds : tie.Need-loop-holds Inv-loop μ-loop
 loop-holds c = (search needs, filled-start _ _, filled-start _ _)
+
+span-requires : tie.Need-span-requires Inv-loop μ-loop
+span-requires c κs = search needs
 
 mul-t : tie.Need-mul-t Inv-loop μ-loop
 mul-t c = search needs
@@ -47,7 +50,7 @@ loop-less : tie.Need-loop-less Inv-loop μ-loop
 loop-less c = search needs
 
 loop-again : tie.Need-loop-again Inv-loop μ-loop
-loop-again c = (search needs, filled-turn _ _ _ _ _ (c .before .before .before .loop-test .taken) (c .before .before .before .before .loop .inv .1) (c .before .is-maximal .ensures), filled-turn _ _ _ _ _ (c .before .before .before .loop-test .taken) (c .before .before .before .before .loop .inv .2) (tick-kept _ _ _ _ _ (c .before .is-maximal .ensures) (c .tick-if .ensures)))
+loop-again c = (search needs, filled-turn _ _ _ _ _ (c .before .before .before .loop-test .taken) (c .before .before .before .before .loop .inv .1) (maximal-is _ _ _ _ _ (c .before .before .before .before .before .span .ensures) (c .before .is-maximal .ensures)), filled-turn _ _ _ _ _ (c .before .before .before .loop-test .taken) (c .before .before .before .before .loop .inv .2) (tick-kept _ _ _ _ _ (maximal-is _ _ _ _ _ (c .before .before .before .before .before .span .ensures) (c .before .is-maximal .ensures)) (c .tick-if .ensures)))
 
 returns : tie.Need-returns Inv-loop μ-loop
 returns c = settled-is _ _ _ _ (filled-end _ _ _ _ (c .before .loop .inv .0) (c .loop-test .left) (c .before .loop .inv .1)) (filled-end _ _ _ _ (c .before .loop .inv .0) (c .loop-test .left) (c .before .loop .inv .2))
@@ -58,6 +61,7 @@ settled-spec =
     (tie.spec
     Inv-loop
     μ-loop
+    span-requires
     loop-holds
     mul-t
     element-copy-out-t
