@@ -1,8 +1,9 @@
--- Over the definition: every pair of files is worked, or turned back under one number with no finding and no byte (demand 1); what is
--- written has exact latest stamps, and two findings with the same set of stamps have the same ones (demand 3).
+-- Over the definition: every pair of files is worked, or turned back under one number with no finding and no byte (demand 1); exactly
+-- those within layouts and limits are worked (demand 2); what is written has exact latest stamps, and two findings with the same set of
+-- stamps have the same ones (demand 3).
 use mathlib.Core.Logic.{_⊎_, ⊎-elim}
 use mathlib.Core.List.{List, [], _++_, map, Memᴰ·append-left, Memᴰ·append-right, List·Memᴰ·head, List·Memᴰ·tail, List·Memᴰ·not-nil}
-use mathlib.Core.Path.{_≡_, refl, sym, subst, _∙_}
+use mathlib.Core.Path.{_≡_, refl, sym, ap, subst, _∙_}
 use Prim.Native.Nat.{ℕ, _≤_, _<_}
 use native.Mathlib.Omega.{arith}
 use lib.Dec.{eqb}
@@ -12,14 +13,16 @@ use borrow.Author.Tests.{ne-eqb}
 use Rattle.sequences.specs.Members.{_∈_, SameMembers}
 use Rattle.sequences.specs.Range.{range}
 use Rattle.sequences.proofs.Range.{range-in}
-use Rattle.plans.specs.Layout.{Plan}
+use Rattle.plans.specs.Layout.{Plan, planBytes}
 use Rattle.plans.specs.Limits.{PlanOk}
 use Rattle.plans.specs.Reader.{PlanAnswer, readPlan, accepted as acceptedPlan, refused as refusedPlan}
-use Rattle.plans.proofs.Theorems.{accepted-is-laid-out, one-answer as one-plan-answer}
+use Rattle.plans.proofs.Theorems.{accepted-is-laid-out, laid-out-is-accepted as plan-accepted, one-answer as one-plan-answer}
 use Rattle.passages.specs.declared.EventEntry.{EventEntry}
-use Rattle.passages.specs.Events.{passageEvents}
+use Rattle.passages.specs.Events.{passageEvents, placed}
+use Rattle.passages.specs.Layout.{passageBytes}
+use Rattle.passages.specs.Limits.{PassageOk}
 use Rattle.passages.specs.Reader.{PassageAnswer, readPassage, accepted, refused}
-use Rattle.passages.proofs.Theorems.{accepted-count, one-answer as one-passage-answer}
+use Rattle.passages.proofs.Theorems.{accepted-count, accepted-events, accepted-is-laid-out as passage-is-laid-out, laid-out-is-accepted as passage-accepted, laid-out-is-bytes, one-answer as one-passage-answer}
 use Rattle.forms.specs.Bytes.{Bytes}
 use Rattle.occurrences.specs.Latest.{Exact}
 use Rattle.detections.specs.Findings.{Finding, findingsBytes}
@@ -67,6 +70,42 @@ module _ (plan passage : List ℕ) (room : ℕ) where
       (one-passage-answer (a .0) passage))
       (λ a. plan-fault (a .0) (a .1) (a .2) (a .3) (plan-stops (a .0) (a .1) (a .2) (a .4)))
       (one-plan-answer plan)
+
+-- ---- demand 2: exactly the files within layouts and limits are worked
+-- every plan and passage within the limits, laid out as bytes, are accepted and worked, with those very events
+pub laid-out-is-worked : (p : Plan) (es : List EventEntry) (room : ℕ) → PlanOk p → PassageOk p es
+    → worked (planBytes p) (passageBytes es) room ≡ endOf (runOf room p (map (placed (p .kinds) (p .loggers)) es))
+laid-out-is-worked p es room ok fine =
+    let f = passage-accepted p es ok fine in
+    both-pass (planBytes p) (passageBytes es) room p es (plan-accepted p ok) f
+    ∙ ap (λ l. endOf (runOf room p l)) (accepted-events p (passageBytes es) es (laid-out-is-bytes p es ok fine) f)
+
+-- a plan and a passage within the limits, laid out as bytes
+pub record LaidOut (plan passage : List ℕ) : Type 0 where
+  pub read : Plan
+  pub entries : List EventEntry
+  pub plan-ok : PlanOk read
+  pub passage-ok : PassageOk read entries
+  pub plan-bytes : plan ≡ planBytes read
+  pub passage-bytes : passage ≡ passageBytes entries
+
+-- and no other two are worked: with 0, or with a limit's number, both are such bytes
+pub worked-is-laid-out : (plan passage : List ℕ) (room : ℕ) → Bytes plan → Bytes passage
+    → (worked plan passage room .number ≡ 0) ⊎ (31 ≤ worked plan passage room .number) → LaidOut plan passage
+worked-is-laid-out plan passage room B C n = go (every-pair-ends plan passage room)
+  where
+    no-fault : (number place : ℕ) → 1 ≤ number → number ≤ 26 → worked plan passage room ≡ turnedBack number place → ⊥
+    no-fault number place l m e =
+        let same : worked plan passage room .number ≡ number = ap (λ (w : Work). w .number) e in
+        ⊎-elim (λ z. omega (arith, z, same, l)) (λ z. omega (arith, z, same, m)) n
+
+    go : Ends plan passage room → LaidOut plan passage
+    go (plan-fault number place l m e) = absurd (no-fault number place l (omega (arith, m)) e)
+    go (passage-fault p a number place l m e) = absurd (no-fault number place (omega (arith, l)) m e)
+    go (works p a es b e) =
+        let x = accepted-is-laid-out plan p B a in
+        let y = passage-is-laid-out p passage es C b in
+        record { read = p; entries = es; plan-ok = x .1; passage-ok = y .1; plan-bytes = x .0; passage-bytes = y .0 }
 
 -- ---- the numbers of the table
 of-plan : (k : ℕ) → 1 ≤ k → k ≤ 12 → k ∈ answerNumbers
