@@ -5,3 +5,4 @@ pub mod Sections
 pub mod Layouts
 pub mod Faults
 pub mod Prefixes
+pub mod First

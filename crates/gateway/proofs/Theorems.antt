@@ -17,13 +17,17 @@ use Rattle.plans.specs.Layout.{Plan, planBytes}
 use Rattle.plans.specs.Limits.{PlanOk}
 use Rattle.plans.specs.Reader.{PlanAnswer, readPlan, accepted as acceptedPlan, refused as refusedPlan}
 use Rattle.plans.proofs.Theorems.{accepted-is-laid-out, laid-out-is-accepted as plan-accepted, one-answer as one-plan-answer}
+use Rattle.plans.proofs.First.{first-bytes as plan-first}
 use Rattle.passages.specs.declared.EventEntry.{EventEntry}
 use Rattle.passages.specs.Events.{passageEvents, placed}
-use Rattle.passages.specs.Layout.{passageBytes}
+use Rattle.passages.specs.Layout.{event, passageBytes}
 use Rattle.passages.specs.Limits.{PassageOk}
 use Rattle.passages.specs.Reader.{PassageAnswer, readPassage, accepted, refused}
+use Rattle.passages.proofs.Entries.{event-laws}
+use Rattle.passages.proofs.First.{first-bytes as passage-first}
 use Rattle.passages.proofs.Theorems.{accepted-count, accepted-events, accepted-is-laid-out as passage-is-laid-out, laid-out-is-accepted as passage-accepted, laid-out-is-bytes, one-answer as one-passage-answer}
 use Rattle.forms.specs.Bytes.{Bytes}
+use Rattle.forms.proofs.Layouts.{length-section}
 use Rattle.occurrences.specs.Latest.{Exact}
 use Rattle.detections.specs.Findings.{Finding, findingsBytes}
 use Rattle.detections.proofs.Telling.{AllFit, findings-told}
@@ -106,6 +110,31 @@ worked-is-laid-out plan passage room B C n = go (every-pair-ends plan passage ro
         let x = accepted-is-laid-out plan p B a in
         let y = passage-is-laid-out p passage es C b in
         record { read = p; entries = es; plan-ok = x .1; passage-ok = y .1; plan-bytes = x .0; passage-bytes = y .0 }
+
+-- ---- the first bytes decide
+-- one byte more than the longest plan and the longest passage have are enough: what stands after them changes nothing
+module _ (plan passage : List ℕ) (room m n : ℕ) (enough : 189 ≤ m) (enough′ : 1539 ≤ n) (C : Bytes passage) where
+  same-plan : readPlan (take m plan) ≡ readPlan plan
+  same-plan = plan-first plan m enough
+
+  -- a passage that is accepted is taken whole
+  taken-whole : (p : Plan) (es : List EventEntry) → readPassage p passage ≡ accepted es → take n passage ≡ passage
+  unfolding passageBytes
+  taken-whole p es f =
+      let (bytes, ok) = passage-is-laid-out p passage es C f in
+      take-all n passage (omega (arith, ap length bytes, length-section event event-laws es, ok .most))
+
+  pub first-bytes : worked (take m plan) (take n passage) room ≡ worked plan passage room
+  first-bytes =
+      ⊎-elim
+      (λ a. ⊎-elim
+      (λ b. ap (λ x. worked (take m plan) x room) (taken-whole (a .0) (b .0) (b .1))
+      ∙ both-pass (take m plan) passage room (a .0) (b .0) (same-plan ∙ a .1) (b .1) ∙ sym (both-pass plan passage room (a .0) (b .0) (a .1) (b .1)))
+      (λ b. passage-stops (take m plan) (take n passage) room (a .0) (b .0) (b .1) (b .2) (same-plan ∙ a .1) (passage-first (a .0) passage n enough′ ∙ b .4)
+      ∙ sym (passage-stops plan passage room (a .0) (b .0) (b .1) (b .2) (a .1) (b .4)))
+      (one-passage-answer (a .0) passage))
+      (λ a. plan-stops (take m plan) (take n passage) room (a .0) (a .1) (a .2) (same-plan ∙ a .4) ∙ sym (plan-stops plan passage room (a .0) (a .1) (a .2) (a .4)))
+      (one-plan-answer plan)
 
 -- ---- the numbers of the table
 of-plan : (k : ℕ) → 1 ≤ k → k ≤ 12 → k ∈ answerNumbers

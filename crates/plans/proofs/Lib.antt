@@ -3,3 +3,4 @@ pub mod Limits
 pub mod Sections
 pub mod Theorems
 pub mod Whole
+pub mod First
