@@ -12,9 +12,7 @@ fn event(logger: u8, tick: u64, number: usize) -> Occurrence {
 }
 
 fn with(list: WaitingList, o: Occurrence) -> WaitingList {
-    let a = waiting_lists::append_to(list, o);
-    let l = a.list;
-    l
+    waiting_lists::append_to(list, o)
 }
 
 // Four wait: logger 1 at 80 and 95, logger 3 at 100, logger 2 at 300.
@@ -104,14 +102,12 @@ fn and(context: u64, name: &[u8]) {
 
 // One more, and a line where the list is full.
 fn one_more(list: WaitingList, number: usize) -> WaitingList {
-    let a = waiting_lists::append_to(list, event(1, 7, number));
-    if a.full {
+    if waiting_lists::is_full(list) {
         write(b"full at");
         write_number(number);
         write(b"\n");
     }
-    let l = a.list;
-    l
+    waiting_lists::append_to(list, event(1, 7, number))
 }
 
 // Sixteen wait and no more; two leave, and a freed place is used again.

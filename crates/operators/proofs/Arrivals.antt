@@ -9,7 +9,7 @@ use lib.ListN.{drop, getD, length, take}
 use borrow.Author.Tests.{eq-eqb, ne-eqb}
 use Rattle.sequences.specs.Choice.{pick}
 use Rattle.sequences.specs.Loops.{fold}
-use Rattle.sequences.specs.Marks.{firstMark, marked, unmarked}
+use Rattle.sequences.specs.Marks.{firstMark, marked, padded, unmarked}
 use Rattle.sequences.specs.Select.{any}
 use Rattle.sequences.proofs.Loops.{fold-none, fold-turn, fold-end}
 use Rattle.occurrences.specs.declared.Occurrence.{Occurrence}
@@ -18,9 +18,12 @@ use Rattle.contexts.specs.declared.Choice.{Choice}
 use Rattle.contexts.specs.Choice.{andCandidates, chosen, seqCandidates}
 use Rattle.contexts.specs.Made.{madeOf}
 use Rattle.contexts.specs.Table.{rowOf}
+use Rattle.contexts.proofs.Choices.{and-candidates, none-removed}
+use Rattle.contexts.proofs.Findings.{none-made}
 use Rattle.plans.specs.declared.Node.{Node}
 use Rattle.emissions.specs.declared.Limit.the-variants.{None, ListFull}
 use Rattle.emissions.specs.Emissions.{Emitting, emitted, emittedAll, ended, numberOf, reached}
+use Rattle.emissions.proofs.Limits.{emittedAll-still}
 use Rattle.operators.specs.Turns.{Met, Setting, Sides, Turned, andArrived, findingsOf, arrived, joinsBy, leftSides, metBy, nodeTurn, orArrived, restOf, rightSides, seqLeft, seqRight, waited}
 
 -- ---- meeting the candidates
@@ -42,6 +45,23 @@ module _ (s : Setting) (node : Node) (place : ℕ) (l : List Occurrence) (candid
   pub met-goes : (rest : List Occurrence) → reached (f .limit) ≡ false → rest ≡ unmarked l (c .removed) → _≡_ {A = Met} (record { list = rest; emit = f }) (metBy s node place l candidates e o)
   unfolding metBy restOf
   met-goes rest h r = rw (← emit-is, h, r, ← chose)
+
+-- without candidates nothing is made or removed
+pick-same : {A : Type 0} (b : Bool) (x : A) → pick b x x ≡ x
+pick-same true x = refl
+pick-same false x = refl
+
+pub met-none : (s : Setting) (node : Node) (place : ℕ) (l : List Occurrence) (candidates : List Bool) (e : Emitting) (o : Occurrence) → marked l candidates ≡ []
+    → _≡_ {A = Met} (record { list = l; emit = e }) (metBy s node place l candidates e o)
+unfolding metBy findingsOf restOf emittedAll fold
+met-none s node place l candidates e o h =
+    rw (none-made (rowOf (node .context)) (s .ratio) l candidates o h, none-removed (rowOf (node .context)) (s .ratio) l candidates h, pick-same (reached (e .limit)) l)
+
+-- after a limit nothing happens
+pub met-still : (s : Setting) (node : Node) (place : ℕ) (l : List Occurrence) (candidates : List Bool) (e : Emitting) (o : Occurrence) → reached (e .limit) ≡ true
+    → metBy s node place l candidates e o ≡ record { list = l; emit = e }
+unfolding metBy
+met-still s node place l candidates e o h = rw (emittedAll-still (s .room) (s .loggers) place e h (findingsOf s node l candidates o), h)
 
 -- ---- waiting
 module _ (l : List Occurrence) (e : Emitting) (o : Occurrence) where
@@ -89,6 +109,26 @@ module _ (s : Setting) (node : Node) (place : ℕ) (own other : List Occurrence)
   unfolding andArrived
   and-gone n = rw (← met-all, ← joins-all, n)
 
+-- after a limit nothing happens
+pub and-still : (s : Setting) (node : Node) (place : ℕ) (own other : List Occurrence) (e : Emitting) (o : Occurrence) → reached (e .limit) ≡ true
+    → andArrived s node place own other e o ≡ record { own = own; other = other; emit = e }
+unfolding andArrived
+and-still s node place own other e o h = rw (met-still s node place other (andCandidates other) e o h, ← wait-stopped own e o h) (pick-same (joinsBy (node .context) (andCandidates other)) _)
+
+-- where none waits on the other side it waits
+or-true : (b : Bool) → (b || true) ≡ true
+or-true true = refl
+or-true false = refl
+
+none-waits : any (λ b. b) (andCandidates []) ≡ false
+unfolding andCandidates padded any
+none-waits = refl
+
+pub and-alone : (s : Setting) (node : Node) (place : ℕ) (own : List Occurrence) (e : Emitting) (o : Occurrence)
+    → andArrived s node place own [] e o ≡ record { own = waited own e o .list; other = []; emit = waited own e o .emit }
+unfolding andArrived joinsBy
+and-alone s node place own e o = rw (← met-none s node place [] (andCandidates []) e o (and-candidates []), none-waits, or-true (eqb (node .context) 1))
+
 -- ---- the dispatch
 module _ (s : Setting) (node : Node) (place : ℕ) (left : Bool) (t : Turned) (o : Occurrence) where
   pub arrive-stopped : reached (t .emit .limit) ≡ true → t ≡ arrived s node place left t o
@@ -116,32 +156,3 @@ module _ (s : Setting) (node : Node) (place : ℕ) (left : Bool) (t : Turned) (o
       pub arrive-seq-right : (node .operator ≡ 2 → ⊥) → left ≡ false → r ≡ seqRight s node place t o → r ≡ arrived s node place left t o
       unfolding arrived
       arrive-seq-right k l e = rw (go, ne-eqb (node .operator) 1 h, ne-eqb (node .operator) 2 k, l) e
-
--- ---- the turn
-pub turn-is : (s : Setting) (node : Node) (place : ℕ) (left right la ra m : List Occurrence) (findings : ℕ) (bytes : List ℕ) (t r : Turned) → m ≡ []
-    → t ≡ fold (arrived s node place true) la (record { left = left; right = right; emit = record { made = m; findings = findings; bytes = bytes; limit = numberOf None } })
-    → r ≡ fold (arrived s node place false) ra t → r ≡ nodeTurn s node place left right la ra findings bytes
-unfolding nodeTurn
-turn-is s node place left right la ra m findings bytes t r n e f = rw (← n, ← e) f
-
--- ---- one operator's arrival, from what its calls ensure
-pub or-is : (s : Setting) (place : ℕ) (t : Turned) (o : Occurrence) (f : Emitting) → f ≡ emitted (s .room) (s .loggers) place (t .emit) o
-    → _≡_ {A = Turned} (record { left = t .left; right = t .right; emit = f }) (orArrived s place t o)
-unfolding orArrived
-or-is s place t o f e = ap (λ (x : Emitting). record { left = t .left; right = t .right; emit = x }) e
-
-pub seq-left-is : (t : Turned) (o : Occurrence) (m : Met) → m ≡ waited (t .left) (t .emit) o → _≡_ {A = Turned} (record { left = m .list; right = t .right; emit = m .emit }) (seqLeft t o)
-unfolding seqLeft
-seq-left-is t o m e = ap (λ (x : Met). record { left = x .list; right = t .right; emit = x .emit }) e
-
-pub seq-right-is : (s : Setting) (node : Node) (place : ℕ) (t : Turned) (o : Occurrence) (marks : List Bool) (m : Met) → marks ≡ seqCandidates (s .ratio) (t .left) o
-    → m ≡ metBy s node place (t .left) marks (t .emit) o → _≡_ {A = Turned} (record { left = m .list; right = t .right; emit = m .emit }) (seqRight s node place t o)
-unfolding seqRight
-seq-right-is s node place t o marks m c e =
-    ap (λ (x : Met). record { left = x .list; right = t .right; emit = x .emit }) (e ∙ ap (λ l. metBy s node place (t .left) l (t .emit) o) c)
-
-pub left-is : (t : Sides) (x : Sides) → t ≡ x → _≡_ {A = Turned} (record { left = t .own; right = t .other; emit = t .emit }) (leftSides x)
-left-is t x e = ap leftSides e
-
-pub right-is : (t : Sides) (x : Sides) → t ≡ x → _≡_ {A = Turned} (record { left = t .other; right = t .own; emit = t .emit }) (rightSides x)
-right-is t x e = ap rightSides e

@@ -2,14 +2,15 @@
 use mathlib.Core.Path.{_≡_, refl, sym, ap, _∙_}
 use mathlib.Core.Bool.{Bool, true, false}
 use mathlib.Core.List.{List, _∷_, _++_, append-nil}
-use Prim.Native.Nat.{ℕ, _+_, _≤_, _<_}
+use Prim.Native.Nat.{ℕ, min, _+_, _≤_, _<_}
 use native.Mathlib.Numerals.{add-one}
 use native.Mathlib.Omega.{arith}
+use native.Mathlib.Decide.{decLt}
 use borrow.Author.Tests.{lt-leb}
 use lib.ListN.{length, getD, take, drop, set, length-take, length-set}
-use lib.Seq.{append-snoc, drop-drop, drop-set-lt, getD-drop, getD-take, take-suc-set, take-take}
+use lib.Seq.{append-snoc, take-all, drop-drop, drop-set-lt, getD-drop, getD-take, take-suc-set, take-take}
 use Rattle.sequences.specs.Marks.{unmarked, firstMark}
-use Rattle.sequences.proofs.Marks.{unmarked-yes, unmarked-no, unmarked-end, unmarked-fewer, unmarked-first}
+use Rattle.sequences.proofs.Marks.{unmarked-yes, unmarked-no, unmarked-none, unmarked-end, unmarked-fewer, unmarked-first}
 use Rattle.occurrences.specs.declared.Occurrence.{Occurrence}
 use Rattle.waiting_lists.specs.Waiting.{isFull}
 
@@ -21,13 +22,15 @@ module _ {A : Type 0} (items : List A) (n : ℕ) (gone : List Bool) where
     pub rest : drop i now ≡ drop i items
 
   -- up to the first mark nothing moves
-  pub closing-start : (i : ℕ) → i ≡ firstMark gone → i < length (take n items) → Closing items i i
-  closing-start i e h = record {
-    places = refl;
-    closed = (let a : i ≤ n = omega (arith, length-take n items) in
-        ap (λ l. l ++ unmarked (drop i (take n items)) (drop i gone)) (sym (take-take i n items a)) ∙ sym (rw (← e) at (unmarked-first (take n items) gone)));
-    rest = refl;
-  }
+  pub closing-start : (i : ℕ) → i ≡ min (firstMark gone) (length (take n items)) → Closing items i i
+  closing-start i e = record { places = refl; closed = ap (λ l. l ++ unmarked (drop i (take n items)) (drop i gone)) (sym (take-take i n items (omega (arith, length-take n items)))) ∙ whole; rest = refl }
+    where
+      whole : take i (take n items) ++ unmarked (drop i (take n items)) (drop i gone) ≡ unmarked (take n items) gone
+      whole = elim (decLt (firstMark gone) (length (take n items))) [
+        | yes h ↦ (let f : i ≡ firstMark gone = omega arith in sym (rw (← f) at (unmarked-first (take n items) gone)))
+        | no h ↦ (let f : length (take n items) ≤ i = omega arith in
+            ap (λ l. take i (take n items) ++ l) (unmarked-end (take n items) gone i f) ∙ append-nil (take i (take n items)) ∙ take-all i (take n items) f ∙ sym (unmarked-none (take n items) gone (omega arith)))
+      ]
 
   module _ (now : List A) (k i : ℕ) (d : A) (c : Closing now k i) (in-l : i < length (take n items)) (in-gone : i < length gone) where
     rest-on : drop (i + 1) now ≡ drop (i + 1) items

@@ -2,7 +2,7 @@
 use occurrences::Occurrence;
 ghost use mathlib.Core.List.{[]};
 ghost use mathlib.Core.Path.{_≡_};
-ghost use Prim.Native.Nat.{_≤_};
+ghost use Prim.Native.Nat.{min, _≤_};
 ghost use lib.ListN.{length};
 ghost use Rattle.sequences.specs.Marks.{firstMark, unmarked};
 ghost use Rattle.waiting_lists.specs.Waiting.{appendedTo, held, isFull};
@@ -36,6 +36,14 @@ pub fn count(list: WaitingList) -> usize
 {
     let n = list.len;
     if 16 < n { 16 } else { n }
+}
+
+// Whether 16 wait, so that an append finds no room.
+pub fn is_full(list: WaitingList) -> bool
+    ensures { λ r. ⌜ r ≡ isFull (held list) ⌝ }
+{
+    let n = count(list);
+    16 <= n
 }
 
 // The first place that is marked; 16 where none is.
@@ -73,18 +81,23 @@ pub fn appended(list: WaitingList, o: Occurrence) -> AfterAppend
     }
 }
 
+// The earlier of two places.
+fn earlier(a: usize, b: usize) -> usize
+    ensures { λ r. ⌜ r ≡ min a b ⌝ }
+{
+    if a < b { a } else { b }
+}
+
 // Those that are not marked close up in order.
 pub fn kept(list: WaitingList, gone: [bool; 16]) -> WaitingList
     ensures { λ r. ⌜ held r ≡ unmarked (held list) gone ⌝ }
 {
     let first = first_marked(gone);
     let n = count(list);
-    if n <= first {
-        return list;
-    }
+    let start = earlier(first, n);
     let mut w = list;
-    let mut k = first;
-    let mut i = first;
+    let mut k = start;
+    let mut i = start;
     while i < n {
         let next = i + 1;
         if !gone[i] {
@@ -114,16 +127,13 @@ pub fn remove(list: &mut WaitingList, gone: [bool; 16])
     *list = kept(*list, gone);
 }
 
-// An append to a list by value, which is lent.
-pub fn append_to(list: WaitingList, o: Occurrence) -> AfterAppend
-    ensures { λ r. ⌜ (r .full ≡ isFull (held list)) × (held (r .list) ≡ appendedTo (held list) o) ⌝ }
+// An append to a list by value, which is lent; a full list stays as it is.
+pub fn append_to(list: WaitingList, o: Occurrence) -> WaitingList
+    ensures { λ r. ⌜ held r ≡ appendedTo (held list) o ⌝ }
 {
     let mut m = list;
-    let full = append(&mut m, o);
-    AfterAppend {
-        full: full,
-        list: m,
-    }
+    append(&mut m, o);
+    m
 }
 
 // A removal from a list by value, which is lent.

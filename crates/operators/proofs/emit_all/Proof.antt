@@ -8,10 +8,8 @@ use Rattle.sequences.proofs.Arrays.{held-at}
 use Rattle.sequences.proofs.Loops.{fold-turn, fold-end}
 use Rattle.detections.specs.Writing.{Beyond}
 use Rattle.occurrences.specs.Occurrences.{blank}
-use Rattle.operators.specs.Turns.{settingOf, arrived}
-use Rattle.emissions.specs.Emissions.{emitOf, emitted, emittedAll, heldMade}
+use Rattle.emissions.specs.Emissions.{emitOf, emitted, emittedAll}
 use Rattle.contexts.specs.Made.{madeIn}
-use Rattle.operators.specs.Views.{turnOf}
 use Rattle.detections.proofs.Writing.{beyond-none, beyond-then}
 use native.Mathlib.Omega.{arith}
 use Rattle.operators.proofs.emit_all.Statement.{statement}

@@ -1,4 +1,4 @@
--- `waiting_lists::append_to` meets its contract: a walk of its MIR, by hand (lend, mut-pair).
+-- `waiting_lists::append_to` meets its contract: a walk of its MIR, by hand (lend, mut).
 -- Assumes nothing.
 use mathlib.Core.Path.{_≡_, refl, sym, _∙_, ap, subst}
 use Prim.Native.Nat.{ℕ, zero, suc, _+_, _*_, _-_, _<_, _≤_, _^_}
@@ -61,9 +61,6 @@ use Rattle.waiting_lists.proofs.WaitingList.Laws as LWaitingList
 use Rattle.occurrences.specs.declared.Occurrence.{Occurrence}
 use Rattle.occurrences.proofs.Occurrence as ROccurrence
 use Rattle.occurrences.proofs.Occurrence.Laws as LOccurrence
-use Rattle.waiting_lists.specs.declared.AfterAppend.{AfterAppend}
-use Rattle.waiting_lists.proofs.AfterAppend as RAfterAppend
-use Rattle.waiting_lists.proofs.AfterAppend.Laws as LAfterAppend
 use Rattle.waiting_lists.proofs.append as callee
 use Rattle.waiting_lists.proofs.append.Symbol as callee-def
 use Rattle.waiting_lists.proofs.append.Symbol.{name as #callee}
@@ -89,7 +86,7 @@ spelled = record {
   lifetimes = 0;
   outlives = [];
   params = 2;
-  locals = local LAfterAppend.mir valueLocal ∷ local LWaitingList.mir valueLocal ∷ local LOccurrence.mir valueLocal ∷ local LWaitingList.mir memorySlot ∷ local tyBool valueLocal ∷ local ref valueLocal ∷ local LWaitingList.mir valueLocal ∷ [];
+  locals = local LWaitingList.mir valueLocal ∷ local LWaitingList.mir valueLocal ∷ local LOccurrence.mir valueLocal ∷ local LWaitingList.mir memorySlot ∷ local tyBool valueLocal ∷ local ref valueLocal ∷ [];
   body = parts.t-1;
 }
 
@@ -143,38 +140,31 @@ module _ {M : Type 1} (𝓤 : URA M) (H : Heap 𝓤) (A : Atoms 𝓤) (W : Given
   abbrev Said : Bool → WaitingList → Type 0
   Said r z = (r ≡ isFull (held h)) × (held z ≡ appendedTo (held h) p1)
 
-  abbrev pair : Bool → WaitingList → AfterAppend
-  pair r z = record { full = r; list = z }
-
-  made : (r : Bool) (z : WaitingList) → Is bool r ((vbool r) ∷ []) → Is R z ((LL.val RWaitingList.the-type LWaitingList.the-laws z) ∷ []) → Is RAfterAppend.the-row (pair r z) ((LL.val RAfterAppend.the-type LAfterAppend.the-laws (pair r z)) ∷ [])
-  made r z gr gz = LL.owes RAfterAppend.the-type LAfterAppend.the-laws (pair r z) (gr, (gz, tt))
-
-  exits : (r : Bool) (z : WaitingList) → Said r z → Is bool r ((vbool r) ∷ []) → Is R z ((LL.val RWaitingList.the-type LWaitingList.the-laws z) ∷ []) → ent 𝓤 (emp 𝓤) (Post (LL.val RAfterAppend.the-type LAfterAppend.the-laws (pair r z)))
-  exits r z e gr gz =
-      qed W [] ∵ suffices ! _ (ends-at 𝓤 H A self.ended stayed (self.clauses 𝓤 H A at-mem run) W ((tt, tt, tt, x, at), tt) (LL.val RAfterAppend.the-type LAfterAppend.the-laws (pair r z)) (pair r z) (tt, (tt, tt)) (tt, (tt, tt))) $ says ! e $
-      owned ! RAfterAppend.the-row (Is RAfterAppend.the-row) (LL.makes RAfterAppend.the-type LAfterAppend.the-plain 𝓤 H A) (pair r z) ((LL.val RAfterAppend.the-type LAfterAppend.the-laws (pair r z)) ∷ []) (made r z gr gz) $ nothing ! $ nothing ! $ fjoin ! $ nothing ! $ fjoin ! $ nothing ! $ done !
+  exits : (r : WaitingList) (u : Val) → held r ≡ appendedTo (held h) p1 → Is RWaitingList.the-row r (u ∷ []) → ent 𝓤 (emp 𝓤) (Post u)
+  exits r u e is =
+      qed W [] ∵ suffices ! _ (ends-at 𝓤 H A self.ended stayed (self.clauses 𝓤 H A at-mem run) W ((tt, tt, tt, x, at), tt) u r (tt, (tt, tt)) (tt, (tt, tt))) $ says ! e $
+      owned ! RWaitingList.the-row (Is RWaitingList.the-row) (LL.makes RWaitingList.the-type LWaitingList.the-plain 𝓤 H A) r (u ∷ []) is $ nothing ! $ nothing ! $ fjoin ! $ nothing ! $ fjoin ! $ nothing ! $ done !
 
   module _ (C : Calls 𝓤 H) (Λ : Loops 𝓤 H) (fm : FmC 𝓤 H (W .laws) C) (known : Triple 𝓤 (C #callee) (Callee 𝓤 H A at-mem run)) where
     walk : ent 𝓤 (onEntry 𝓤 H A self.signature tt tt x at) (WpFn 𝓤 H C Λ spelled ((LL.val RWaitingList.the-type LWaitingList.the-laws h) ∷ (LL.val ROccurrence.the-type LOccurrence.the-laws p1) ∷ []) Post)
     walk =
         qed W (‵ ftrue ∷ ‵ (owns (RWaitingList.the-row ∷ ROccurrence.the-row ∷ []) x at) ∷ []) ∵ keep ! [] $ enter ! C Λ spelled ((LL.val RWaitingList.the-type LWaitingList.the-laws h) ∷ (LL.val ROccurrence.the-type LOccurrence.the-laws p1) ∷ []) _ $
-        alloc1 ! (λ l0. alloc1 ! (λ l1. alloc1 ! (λ l2. alloc1 ! (λ l3. alloc1 ! (λ l4. alloc1 ! (λ l5. alloc1 ! (λ l6. alloc0 ! $ params1 ! $ pass1 ! (init ! 10 refl (typedS h gh)) $ pass1 ! (init ! 8 refl (LL.lawful ROccurrence.the-type LOccurrence.the-laws 𝓤 H A W .typed p1 _ gp1 .0)) $ pass0 ! $
-        assigns ! (of-opd ! (load ! (from ! (stop !)) (look ! 10 refl))) (from ! (stop !)) (init ! 6 refl (typedS h gh)) $
-        assigns ! (addr ! (from ! (stop !))) (from ! (stop !)) (init ! 2 refl (tt, tt)) $
-        move ! (6 ∷ []) $ use1 W (‵ (partAt R fullShare h l3 0)) (lies-in 𝓤 H A W h l3 0 gh) $ lft-new ! tt (λ ν. move ! (1 ∷ []) $
+        alloc1 ! (λ l0. alloc1 ! (λ l1. alloc1 ! (λ l2. alloc1 ! (λ l3. alloc1 ! (λ l4. alloc1 ! (λ l5. alloc0 ! $ params1 ! $ pass1 ! (init ! 8 refl (typedS h gh)) $ pass1 ! (init ! 6 refl (LL.lawful ROccurrence.the-type LOccurrence.the-laws 𝓤 H A W .typed p1 _ gp1 .0)) $ pass0 ! $
+        assigns ! (of-opd ! (load ! (from ! (stop !)) (look ! 8 refl))) (from ! (stop !)) (init ! 4 refl (typedS h gh)) $
+        assigns ! (addr ! (from ! (stop !))) (from ! (stop !)) (init ! 0 refl (tt, tt)) $
+        move ! (4 ∷ []) $ use1 W (‵ (partAt R fullShare h l3 0)) (lies-in 𝓤 H A W h l3 0 gh) $ lft-new ! tt (λ ν. move ! (1 ∷ []) $
         use1 W (later (some (λ (δ : GName). ‵ (MutRef (named 0) (ν ∷ []) R .own (lent l3 δ) (vptr l3 0 ∷ [])) ⊛ ‵ (flent (ν ∷ []) (Body (mem R) l3 0 δ))))) (lends-ref 𝓤 H A W R (named 0) (ν ∷ []) h l3 0) $ await ! tt $ pick ! (λ δ. split ! $ move ! (2 ∷ 0 ∷ []) $ use2 W (raw (Callee 𝓤 H A at-mem run .pre (to l3 ν δ))) (goes-to l3 ν δ) $
-        calls-at ! fm (Callee 𝓤 H A at-mem run) known (to l3 ν δ) (and-then ! (load ! (from ! (stop !)) (look ! 4 refl)) (and-then ! (load ! (from ! (stop !)) (look ! 9 refl)) (no-more !))) (λ w.
+        calls-at ! fm (Callee 𝓤 H A at-mem run) known (to l3 ν δ) (and-then ! (load ! (from ! (stop !)) (look ! 2 refl)) (and-then ! (load ! (from ! (stop !)) (look ! 7 refl)) (no-more !))) (λ w.
         use1 W (later (some (λ (r : Bool). ((‵ (flft (ν ∷ []) fullShare) ⊛ ‵ ftrue) ⊛ ‵ (bool .own r (w ∷ []))) ⊛ raw (ensured 𝓤 H A callee.ended (callee.clauses 𝓤 H A at-mem run) (ν ∷ [], tt) (lent l3 δ, (p1, tt)) tt r)))) (id⊢ 𝓤 _) $ await ! tt $ pick ! (λ r.
         split ! $ move ! (1 ∷ []) $ use1 W (some (λ (zs : WaitingList × (Unit {0} × Unit {0})). ‵ (lasts callee.ended (ν ∷ [], tt) (lent l3 δ, (p1, tt)) zs) ⊛ raw (fact 𝓤 (Said r (zs .0))))) (id⊢ 𝓤 _) $ pick ! (λ zs.
         split ! $ move ! (1 ∷ []) $ heard ! (Said r (zs .0)) (λ e. fsplit ! $ move ! (2 ∷ []) $ split ! $ move ! (1 ∷ []) $
         peeks ! bool (Is bool) (shows 𝓤 H A bool) r (w ∷ []) (λ is.
-        land ! (from ! (stop !)) (init ! 9 refl (bool-lawful 𝓤 H A W .typed r _ is .0)) $ rewrite ! 9 (λ (u : Val). ‵ (fat fullShare tyBool l4 0 u)) (ap only (bool-tells r (w ∷ []) is)) refl $ drop ! $ split ! $ lft-end ! tt $ move ! (0 ∷ 4 ∷ 2 ∷ []) $ use3 W (later (‵ (partAt R fullShare (zs .0) l3 0))) (ref-back 𝓤 H A W R (ν ∷ []) δ (zs .0) l3 0) $ await ! tt $
+        land ! (from ! (stop !)) (init ! 7 refl (bool-lawful 𝓤 H A W .typed r _ is .0)) $ drop ! $ split ! $ lft-end ! tt $ move ! (0 ∷ 4 ∷ 2 ∷ []) $ use3 W (later (‵ (partAt R fullShare (zs .0) l3 0))) (ref-back 𝓤 H A W R (ν ∷ []) δ (zs .0) l3 0) $ await ! tt $
         use1 W (‵ (fat fullShare LWaitingList.mir l3 0 (LL.val RWaitingList.the-type LWaitingList.the-laws (zs .0))) ⊛ ‵ (R .own (zs .0) ((LL.val RWaitingList.the-type LWaitingList.the-laws (zs .0)) ∷ []))) (lies-out 𝓤 H A W (zs .0) l3 0) $ split ! $ move ! (1 ∷ []) $ peeks ! R (Is R) (shows 𝓤 H A R) (zs .0) ((LL.val RWaitingList.the-type LWaitingList.the-laws (zs .0)) ∷ []) (λ gz. drop ! $
-        assigns ! (of-opd ! (load ! (from ! (stop !)) (look ! 0 refl))) (from ! (stop !)) (init ! 3 refl (typedS (zs .0) gz)) $
-        assigns ! (agg ! (and-then ! (load ! (from ! (stop !)) (look ! 7 refl)) (and-then ! (load ! (from ! (stop !)) (look ! 3 refl)) (no-more !)))) (from ! (stop !)) (init ! 14 refl (LL.lawful RAfterAppend.the-type LAfterAppend.the-laws 𝓤 H A W .typed (pair r (zs .0)) _ (made r (zs .0) (subst (Is bool r) (bool-tells r (w ∷ []) is) is) gz) .0)) $
-        returns ! (look ! 14 refl) $ forget ! 14 refl $ forget ! 12 refl $ forget ! 10 refl $ forget ! 0 refl $ forget ! 7 refl $ forget ! 5 refl $ forget ! 3 refl $
-        move ! (14 ∷ 15 ∷ []) $ free1 ! $ move ! (12 ∷ 13 ∷ []) $ free1 ! $ move ! (10 ∷ 11 ∷ []) $ free1 ! $ move ! (0 ∷ 9 ∷ []) $ free1 ! $ move ! (6 ∷ 7 ∷ []) $ free1 ! $ move ! (4 ∷ 5 ∷ []) $ free1 ! $ move ! (2 ∷ 3 ∷ []) $ free1 ! $ free0 ! $
-        keep ! [] $ by ! (exits r (zs .0) e (subst (Is bool r) (bool-tells r (w ∷ []) is) is) gz))))))))))))))))
+        assigns ! (of-opd ! (load ! (from ! (stop !)) (look ! 0 refl))) (from ! (stop !)) (init ! 12 refl (typedS (zs .0) gz)) $
+        returns ! (look ! 12 refl) $ forget ! 12 refl $ forget ! 10 refl $ forget ! 8 refl $ forget ! 0 refl $ forget ! 5 refl $ forget ! 3 refl $
+        move ! (12 ∷ 13 ∷ []) $ free1 ! $ move ! (10 ∷ 11 ∷ []) $ free1 ! $ move ! (8 ∷ 9 ∷ []) $ free1 ! $ move ! (0 ∷ 7 ∷ []) $ free1 ! $ move ! (4 ∷ 5 ∷ []) $ free1 ! $ move ! (2 ∷ 3 ∷ []) $ free1 ! $ free0 ! $
+        keep ! [] $ by ! (exits (zs .0) (LL.val RWaitingList.the-type LWaitingList.the-laws (zs .0)) (e .1) gz)))))))))))))))
 
 module _ {M : Type 1} (𝓤 : URA M) (H : Heap 𝓤) (A : Atoms 𝓤) (W : Given 𝓤 H A) (at-mem : Memory → SProp 𝓤) (run : Routine → Fun 𝓤) (𝓣 : Tables 𝓤 H) where
   self-walks : Triple 𝓤 (𝓣 .C #callee) (Callee 𝓤 H A at-mem run) → Walks 𝓤 H A self.ended stayed (WpFn 𝓤 H (𝓣 .C) (𝓣 .Λ) spelled) (self.clauses 𝓤 H A at-mem run)

@@ -1,11 +1,11 @@
 -- In place: the first k places hold those of the first i that stay, and from i on nothing has moved.
-use mathlib.Core.Path.{_≡_, refl, sym}
-use Prim.Native.Nat.{_-_, _≤_}
+use mathlib.Core.Path.{_≡_, refl}
+use Prim.Native.Nat.{min, _-_, _≤_}
 use native.Mathlib.Omega.{arith}
 use borrow.Author.Needs.{needs}
 use borrow.Author.Tests.{not-true, not-false}
 use lib.ListN.{length, length-map}
-use Rattle.sequences.proofs.Marks.{unmarked-none}
+use Rattle.sequences.specs.Marks.{firstMark}
 use Rattle.occurrences.specs.Occurrences.{blank}
 use Rattle.waiting_lists.specs.Waiting.{held}
 use Rattle.waiting_lists.proofs.Removals.{Closing, closing-start, closing-gone, closing-kept, closing-end}
@@ -13,10 +13,10 @@ use Rattle.waiting_lists.proofs.kept.Statement.{statement}
 use Rattle.waiting_lists.proofs.kept.Tie as tie
 
 abbrev Inv-loop : tie.InvT-loop
-Inv-loop gone first n w₀ k₀ i₀ w k i = (i ≤ n) × (k ≤ i) × (length (w .items) ≡ 16) × Closing (w₀ .items) (w₀ .len) gone (w .items) k i
+Inv-loop gone first n start w₀ k₀ i₀ w k i = (i ≤ n) × (k ≤ i) × (length (w .items) ≡ 16) × Closing (w₀ .items) (w₀ .len) gone (w .items) k i
 
 abbrev μ-loop : tie.MeasureT-loop
-μ-loop gone first n w₀ k₀ i₀ w k i = n - i
+μ-loop gone first n start w₀ k₀ i₀ w k i = n - i
 
 first-marked-requires : tie.Need-first-marked-requires Inv-loop μ-loop
 first-marked-requires c κs = search needs
@@ -24,17 +24,22 @@ first-marked-requires c κs = search needs
 count-requires : tie.Need-count-requires Inv-loop μ-loop
 count-requires c κs = search needs
 
-returns : tie.Need-returns Inv-loop μ-loop
-returns c = let s = c .before .before .before in let n = c .before .count .ensures .0 in let f = c .before .before .first-marked .ensures in sym (unmarked-none (held (s .args .list)) (s .args .t2) (omega arith))
+earlier-requires : tie.Need-earlier-requires Inv-loop μ-loop
+earlier-requires c κs = search needs
 
 loop-holds : tie.Need-loop-holds Inv-loop μ-loop
-loop-holds c = let s = c .before .before .before in let n : c .before .count .result ≡ length (held (s .args .list)) = c .before .count .ensures .0 in (search needs, search needs, simp length-map at (s .good .0 .1 .1 .0 .1 .0 .1), closing-start (s .args .list .items) (s .args .list .len) (s .args .t2) _ (c .before .before .first-marked .ensures) (omega arith))
+loop-holds c =
+    let s = c .before .before .before in
+    let n : c .before .count .result ≡ length (held (s .args .list)) = c .before .count .ensures .0 in
+    let f : c .before .before .first-marked .result ≡ firstMark (s .args .t2) = c .before .before .first-marked .ensures in
+    let e : c .earlier .result ≡ min (c .before .before .first-marked .result) (c .before .count .result) = c .earlier .ensures in
+    (omega arith, search needs, simp length-map at (s .good .0 .1 .1 .0 .1 .0 .1), closing-start (s .args .list .items) (s .args .list .len) (s .args .t2) _ (omega arith))
 
 add-next : tie.Need-add-next Inv-loop μ-loop
 add-next c = search needs
 
-array-read-if2 : tie.Need-array-read-if2 Inv-loop μ-loop
-array-read-if2 c = search needs
+array-read-if1 : tie.Need-array-read-if1 Inv-loop μ-loop
+array-read-if1 c = search needs
 
 mul-o : tie.Need-mul-o Inv-loop μ-loop
 mul-o c = search needs
@@ -55,16 +60,16 @@ loop-less : tie.Need-loop-less Inv-loop μ-loop
 loop-less c = search needs
 
 loop-again : tie.Need-loop-again Inv-loop μ-loop
-loop-again c = let b = c .before .before .before in let s = b .before .before .before .before in let l = s .args .list in let i = b .loop .i in let n : b .before .before .count .result ≡ length (held l) = b .before .before .count .ensures .0 in (search needs, search needs, search needs, closing-kept (l .items) (l .len) (s .args .t2) (b .loop .w .items) (b .loop .k) i blank (b .loop .inv .3) (omega arith) (search needs) _ (search needs) refl (not-true _ (c .before .if2 .taken)))
+loop-again c = let b = c .before .before .before in let s = b .before .before .before .before in let l = s .args .list in let i = b .loop .i in let n : b .before .before .count .result ≡ length (held l) = b .before .before .count .ensures .0 in (search needs, search needs, search needs, closing-kept (l .items) (l .len) (s .args .t2) (b .loop .w .items) (b .loop .k) i blank (b .loop .inv .3) (omega arith) (search needs) _ (search needs) refl (not-true _ (c .before .if1 .taken)))
 
 loop-less-2 : tie.Need-loop-less-2 Inv-loop μ-loop
 loop-less-2 c = search needs
 
 loop-again-2 : tie.Need-loop-again-2 Inv-loop μ-loop
-loop-again-2 c = let b = c .before .before in let s = b .before .before .before .before in let l = s .args .list in let i = b .loop .i in let n : b .before .before .count .result ≡ length (held l) = b .before .before .count .ensures .0 in (search needs, search needs, search needs, closing-gone (l .items) (l .len) (s .args .t2) (b .loop .w .items) (b .loop .k) i blank (b .loop .inv .3) (omega arith) (search needs) (not-false _ (c .if2 .left)))
+loop-again-2 c = let b = c .before .before in let s = b .before .before .before .before in let l = s .args .list in let i = b .loop .i in let n : b .before .before .count .result ≡ length (held l) = b .before .before .count .ensures .0 in (search needs, search needs, search needs, closing-gone (l .items) (l .len) (s .args .t2) (b .loop .w .items) (b .loop .k) i blank (b .loop .inv .3) (omega arith) (search needs) (not-false _ (c .if1 .left)))
 
-returns-2 : tie.Need-returns-2 Inv-loop μ-loop
-returns-2 c = let b = c .before in let s = b .before .before .before .before in let l = s .args .list in let i = b .loop .i in let n : b .before .before .count .result ≡ length (held l) = b .before .before .count .ensures .0 in closing-end (l .items) (l .len) (s .args .t2) _ _ i (b .loop .inv .3) (omega arith)
+returns : tie.Need-returns Inv-loop μ-loop
+returns c = let b = c .before in let s = b .before .before .before .before in let l = s .args .list in let i = b .loop .i in let n : b .before .before .count .result ≡ length (held l) = b .before .before .count .ensures .0 in closing-end (l .items) (l .len) (s .args .t2) _ _ i (b .loop .inv .3) (omega arith)
 
 pub kept-spec : {M : Type 1} → statement M
 kept-spec =
@@ -74,10 +79,10 @@ kept-spec =
     μ-loop
     first-marked-requires
     count-requires
-    returns
+    earlier-requires
     loop-holds
     add-next
-    array-read-if2
+    array-read-if1
     mul-o
     element-copy-out-o
     mul-o-2
@@ -87,4 +92,4 @@ kept-spec =
     loop-again
     loop-less-2
     loop-again-2
-    returns-2)
+    returns)
