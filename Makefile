@@ -17,7 +17,7 @@ CARGO_FLAGS := --quiet --release --offline --locked --manifest-path compare/Carg
 CARGO_RUN := CARGO_TARGET_DIR=target/cargo cargo run $(CARGO_FLAGS)
 PROFILE := target/profile/callgrind.out
 
-.PHONY: help test listing host compare exhaustive fuzz bench profile examples
+.PHONY: help test listing host compare exhaustive fuzz bench profile examples mutants
 
 help:
 	@echo 'make test            the gate: all proofs and all tests (.ci/run)'
@@ -32,6 +32,8 @@ help:
 	@echo 'make profile EVENTS=N NODES=N KIND=sparse|typical|every REPEATS=N'
 	@echo '                     the instructions of the library by function, counted by callgrind'
 	@echo 'make examples        writes the files of examples/ anew'
+	@echo 'make mutants CRATE=NAME SHARE=K'
+	@echo '                     small wrong edits of the code, which the checker must refuse: every K-th, of one crate or of all'
 
 test:
 	.ci/run
@@ -64,6 +66,9 @@ profile: $(LIBRARY)
 
 examples: $(LIBRARY)
 	$(CARGO_RUN) --bin compare -- --write-examples examples
+
+mutants:
+	mutants/run $(SHARE) $(CRATE)
 
 $(HOST): host/rathunxa_host.c include/rathunxa.h $(LIBRARY)
 	mkdir -p $(@D)
