@@ -128,6 +128,18 @@ long_files() {
     answers '100,000 zeros as passage' "$plan" "$(longer "$kept/zeros" 100000)" 'end 26 2 0 0'
 }
 
+# A file that comes in pieces.
+in_pieces() { head -c 7 "$1" && sleep 0.1 && tail -c +8 "$1"; }
+
+# pieces PROGRAM...: what it prints of the four spans' files, both in pieces.
+pieces() { "$@" <(in_pieces examples/bridge-late/plan) <(in_pieces examples/bridge-late/passage); }
+
+piped_files() {
+    local wanted=examples/bridge-late/listing
+    expect 'in pieces: the proved program'"'"'s listing' cmp <(pieces "$listing") "$wanted"
+    expect 'in pieces: the host'"'"'s listing' cmp <(pieces "${host[@]}") "$wanted"
+}
+
 # The proved program cannot tell that its output was lost; the host does.
 full_disk() {
     "${host[@]}" examples/output-end/plan examples/output-end/passage >/dev/full 2>"$kept/host.err"
@@ -139,6 +151,7 @@ full_disk() {
 examples
 unreadable
 long_files
+piped_files
 full_disk
 echo "listing_test: $tested tested, $failed failed"
 [ "$failed" -eq 0 ]

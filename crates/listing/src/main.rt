@@ -8,6 +8,7 @@ use libc::STDERR_FILENO;
 use libc::STDOUT_FILENO;
 ghost use Prim.Native.Nat.{_+_, _-_, _≤_, _<_};
 ghost use lib.ListN.{length, take};
+ghost use mathlib.Core.Bool.{true};
 ghost use mathlib.Core.Path.{_≡_};
 ghost use Rattle.io.specs.Counts.{Counts};
 ghost use Rattle.detections.specs.Writing.{Wrote};
@@ -207,7 +208,7 @@ fn read_file(fd: i32, buf: &mut [u8]) -> FileRead
 }
 
 fn unread() -> FileRead
-    ensures { λ r. ⌜ r .count ≡ 0 ⌝ }
+    ensures { λ r. ⌜ (r .failed ≡ true) × (r .count ≡ 0) ⌝ }
 {
     FileRead {
         failed: true,

@@ -29,12 +29,8 @@ impl Node {
     pub const AND: u64 = 2;
 
     pub const SEQ: u64 = 3;
-    // Contexts.
+    // The first and the last context.
     pub const RECENT: u64 = 1;
-
-    pub const CHRONICLE: u64 = 2;
-
-    pub const CONTINUOUS: u64 = 3;
 
     pub const CUMULATIVE: u64 = 4;
     // An input is the place of a kind, or this and the place of an earlier node.
