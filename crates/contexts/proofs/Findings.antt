@@ -4,18 +4,17 @@ use mathlib.Core.Bool.{Bool}
 use mathlib.Core.List.{List, [], _∷_, List·Memᴰ·eq-of-singleton, List·Memᴰ·not-nil, Memᴰ·cast}
 use Prim.Native.Nat.{ℕ, _≤_, _<_}
 use native.Mathlib.Omega.{arith}
-use lib.ListN.{length, getD, length-map}
-use Rattle.sequences.specs.Marks.{marked}
+use lib.ListN.{length, length-map}
+use Rattle.sequences.specs.Loops.{fold}
+use Rattle.sequences.specs.Marks.{firstMark, marked}
 use Rattle.sequences.specs.Members.{_∈_}
-use Rattle.sequences.proofs.Arrays.{held-at}
+use Rattle.sequences.proofs.Marks.{marked-none, marked-some}
 use Rattle.sequences.proofs.Members.{map-of, same-swap}
 use Rattle.occurrences.specs.declared.Occurrence.{Occurrence}
 use Rattle.occurrences.specs.Combination.{combinationOf, combinedOf}
-use Rattle.occurrences.specs.Occurrences.{blank}
-use Rattle.occurrences.proofs.Combination.{combination-same, combination-two}
-use Rattle.contexts.specs.declared.Made.{Made}
+use Rattle.occurrences.proofs.Combination.{combination-fold, combination-same, combination-two}
 use Rattle.contexts.specs.Choice.{chosen}
-use Rattle.contexts.specs.Made.{madeIn, madeOf}
+use Rattle.contexts.specs.Made.{madeOf}
 use Rattle.contexts.specs.Table.{Findings, each, together, Context}
 use Rattle.contexts.proofs.Choices.{none-taken}
 
@@ -40,6 +39,21 @@ unfolding madeOf
 made-together ratio [] o = omega arith
 made-together ratio (w ∷ those) o = omega arith
 
+-- the arrival with all taken one after another: where one is taken that is made, and where none is nothing
+module _ (ratio : ℕ) (o : Occurrence) (waiting : List Occurrence) (m : List Bool) (first n : ℕ) (at : first ≡ firstMark m) (many : n ≡ length waiting) where
+  pub together-some : n ≤ 16 → length m ≡ 16 → first < n → fold (combinedOf ratio) (marked waiting m) o ∷ [] ≡ madeOf together ratio (marked waiting m) o
+  unfolding madeOf
+  together-some few long h =
+      let (w, rest, f) = marked-some waiting m (omega arith) (omega arith) in
+      rw f (ap (λ x. x ∷ []) (combination-fold ratio o w rest))
+
+  pub together-none : n ≤ first → madeOf together ratio (marked waiting m) o ≡ []
+  together-none h = ap (λ l. madeOf together ratio l o) (marked-none waiting m (omega arith)) ∙ made-none together ratio o
+
+-- no mark among 16 places: none of at most 16 is marked
+pub none-marked : (waiting : List Occurrence) (m : List Bool) → length waiting ≤ 16 → 16 ≤ firstMark m → marked waiting m ≡ []
+none-marked waiting m few h = marked-none waiting m (omega arith)
+
 -- whatever is made is the combination of the arrival and one or more of those taken
 pub record MadeOf (ratio : ℕ) (those : List Occurrence) (o made : Occurrence) : Type 0 where
   pub first : Occurrence
@@ -59,7 +73,3 @@ made-parts each ratio those o m =
     }
 made-parts together ratio [] o m = absurd (List·Memᴰ·not-nil m)
 made-parts together ratio (w ∷ those) o m = record { first = w; more = those; within = λ p j. j; combined = List·Memᴰ·eq-of-singleton m }
-
--- what was made as the i-th
-pub made-at : (m : Made) (i : ℕ) → i < length (madeIn m) → getD (m .items) i blank ≡ getD (madeIn m) i blank
-made-at m i h = held-at (m .items) (m .len) i blank h

@@ -1,32 +1,28 @@
 -- What each function's steps come to.
 use mathlib.Core.Path.{_≡_, refl, sym, ap, _∙_}
 use mathlib.Core.Bool.{Bool, true, false, not, _&&_}
-use mathlib.Core.List.{List, [], _∷_, _++_, map, zipWith}
+use mathlib.Core.List.{List, [], _∷_, map, zipWith}
 use Prim.Native.Nat.{ℕ, _+_, _≤_, _<_}
 use native.Mathlib.Omega.{arith}
 use borrow.Author.Tests.{eq-eqb, ne-eqb, not-true, not-false}
 use lib.ListN.{length, drop, getD, replicate, set, take, getD-replicate, length-map, length-replicate}
 use Rattle.sequences.specs.Choice.{pick}
 use Rattle.sequences.specs.Loops.{fold}
-use Rattle.sequences.specs.Marks.{firstMark, marked, padded}
+use Rattle.sequences.specs.Marks.{marked, padded}
 use Rattle.sequences.specs.Select.{any}
 use Rattle.sequences.proofs.Arrays.{getD-zip, length-zip}
 use Rattle.sequences.proofs.Parts.{getD-map}
-use Rattle.sequences.proofs.Marks.{any-marked-no, any-marked-yes, fold-marked, map-marked, marked-none, marked-some, padded-end, padded-full, padded-turn}
+use Rattle.sequences.proofs.Marks.{any-marked-no, any-marked-yes, fold-marked, padded-end, padded-full, padded-turn}
 use Rattle.sequences.proofs.Select.{any-none}
 use Rattle.occurrences.specs.declared.Occurrence.{Occurrence}
-use Rattle.occurrences.specs.Combination.{combinedOf}
 use Rattle.occurrences.specs.Occurrences.{blank, isBefore}
-use Rattle.occurrences.proofs.Combination.{combination-fold}
-use Rattle.waiting_lists.specs.declared.WaitingList.{WaitingList}
-use Rattle.waiting_lists.specs.Waiting.{held}
+use Rattle.occurrences.specs.Packed.{held, occurrenceOf}
 use Rattle.waiting_lists.proofs.Places.{waiting-at}
 use Rattle.contexts.specs.declared.Choice.{Choice}
 use Rattle.contexts.specs.declared.Row.{Row}
 use Rattle.contexts.specs.Choice.{andCandidates, chosen, removedOf, removes, takenOf, takes}
-use Rattle.contexts.specs.Made.{madeOf}
 use Rattle.contexts.specs.Steps.{barsOf}
-use Rattle.contexts.specs.Table.{Taken, latest, earliest, every, Findings, each, together, untaken, taken, all, Context, rowOf, takesOf, findsOf, removesOf, contextOf}
+use Rattle.contexts.specs.Table.{Taken, latest, earliest, every, each, together, untaken, taken, all, Context, takesOf, findsOf, removesOf, contextOf}
 
 -- ---- codes
 module _ (code : ℕ) where
@@ -96,43 +92,39 @@ module _ (mark : Bool) (code ratio : ℕ) (candidates : List Occurrence) (w : Oc
   taken-unbarred r e = rw (not-false mark on, e) (takes-unbarred (takesOf code) ratio candidates w)
 
 -- ---- marks that a loop fills, for 16 places
-module _ (list : WaitingList) (m : List Bool) (i : ℕ) (in-list : i < length (held list)) (few : length (held list) ≤ 16) where
+module _ (row : List (List ℕ)) (n : ℕ) (m : List Bool) (i : ℕ) (in-list : i < length (held row n)) (few : length (held row n) ≤ 16) where
   abbrev waiting : List Occurrence
-  waiting = held list
+  waiting = held row n
 
   -- a test of each
-  pub tested-turn : (p : Occurrence → Bool) (v : Bool) → m ≡ padded 16 (take i (map p waiting)) → v ≡ p (getD (list .items) i blank) → set m i v ≡ padded 16 (take (i + 1) (map p waiting))
+  pub tested-turn : (p : Occurrence → Bool) (v : Bool) → m ≡ padded 16 (take i (map p waiting)) → v ≡ p (occurrenceOf (getD row i [])) → set m i v ≡ padded 16 (take (i + 1) (map p waiting))
   tested-turn p v e f =
-      padded-turn 16 (map p waiting) m i v (omega (arith, length-map waiting p)) (omega (arith, length-map waiting p)) e (f ∙ ap p (waiting-at list i in-list) ∙ sym (getD-map p waiting i blank false in-list))
+      padded-turn 16 (map p waiting) m i v (omega (arith, length-map waiting p)) (omega (arith, length-map waiting p)) e (f ∙ ap p (waiting-at row n i in-list) ∙ sym (getD-map p waiting i blank false in-list))
 
   -- a test of each with its mark
   pub zipped-turn : (f : Occurrence → Bool → Bool) (marks : List Bool) (v : Bool) → length marks ≡ 16 → m ≡ padded 16 (take i (zipWith f waiting marks))
-      → v ≡ f (getD (list .items) i blank) (getD marks i false) → set m i v ≡ padded 16 (take (i + 1) (zipWith f waiting marks))
+      → v ≡ f (occurrenceOf (getD row i [])) (getD marks i false) → set m i v ≡ padded 16 (take (i + 1) (zipWith f waiting marks))
   zipped-turn f marks v h e g =
-      let n : length (zipWith f waiting marks) ≡ length waiting = length-zip f waiting marks (omega arith) in
-      padded-turn 16 (zipWith f waiting marks) m i v (omega arith) (omega arith) e (g ∙ ap (λ w. f w (getD marks i false)) (waiting-at list i in-list) ∙ sym (getD-zip f waiting marks i blank false false in-list (omega arith)))
+      let k : length (zipWith f waiting marks) ≡ length waiting = length-zip f waiting marks (omega arith) in
+      padded-turn 16 (zipWith f waiting marks) m i v (omega arith) (omega arith) e (g ∙ ap (λ w. f w (getD marks i false)) (waiting-at row n i in-list) ∙ sym (getD-zip f waiting marks i blank false false in-list (omega arith)))
 
 -- ---- a loop over the places of a list: what the code reads at a place is what waits there
-module _ (list : WaitingList) (m : List Bool) (i : ℕ) (in-l : i < length (held list)) (in-m : i < length m) where
-  module _ (p : Occurrence → Bool) (r : Bool) (told : r ≡ (getD m i false && p (getD (list .items) i blank))) where
-    told-here : (getD m i false && p (getD (held list) i blank)) ≡ r
-    told-here = ap (λ w. getD m i false && p w) (sym (waiting-at list i in-l)) ∙ sym told
+module _ (row : List (List ℕ)) (n : ℕ) (m : List Bool) (i : ℕ) (in-l : i < length (held row n)) (in-m : i < length m) where
+  module _ (p : Occurrence → Bool) (r : Bool) (told : r ≡ (getD m i false && p (occurrenceOf (getD row i [])))) where
+    told-here : (getD m i false && p (getD (held row n) i blank)) ≡ r
+    told-here = ap (λ w. getD m i false && p w) (sym (waiting-at row n i in-l)) ∙ sym told
 
-    pub found-here : r ≡ true → any p (marked (drop i (held list)) (drop i m)) ≡ true
-    found-here e = any-marked-yes (held list) m i blank in-l in-m p (told-here ∙ e)
+    pub found-here : r ≡ true → any p (marked (drop i (held row n)) (drop i m)) ≡ true
+    found-here e = any-marked-yes (held row n) m i blank in-l in-m p (told-here ∙ e)
 
-    pub not-here : r ≡ false → any p (marked (drop i (held list)) (drop i m)) ≡ any p (marked (drop (i + 1) (held list)) (drop (i + 1) m))
-    not-here e = any-marked-no (held list) m i blank in-l in-m p (told-here ∙ e)
+    pub not-here : r ≡ false → any p (marked (drop i (held row n)) (drop i m)) ≡ any p (marked (drop (i + 1) (held row n)) (drop (i + 1) m))
+    not-here e = any-marked-no (held row n) m i blank in-l in-m p (told-here ∙ e)
 
-  pub combined-here : {S : Type 0} (f : S → Occurrence → S) (s r : S) → r ≡ pick (getD m i false) (f s (getD (list .items) i blank)) s
-      → fold f (marked (drop (i + 1) (held list)) (drop (i + 1) m)) r ≡ fold f (marked (drop i (held list)) (drop i m)) s
+  pub combined-here : {S : Type 0} (f : S → Occurrence → S) (s r : S) → r ≡ pick (getD m i false) (f s (occurrenceOf (getD row i []))) s
+      → fold f (marked (drop (i + 1) (held row n)) (drop (i + 1) m)) r ≡ fold f (marked (drop i (held row n)) (drop i m)) s
   combined-here f s r e =
-      ap (fold f (marked (drop (i + 1) (held list)) (drop (i + 1) m))) (e ∙ ap (λ w. pick (getD m i false) (f s w) s) (waiting-at list i in-l))
-      ∙ fold-marked (held list) m i blank in-l in-m f s
-
-  pub made-here : (f : Occurrence → Occurrence) (now : List Occurrence) (k : ℕ) (v : Occurrence) → getD m i false ≡ true → k < length now → v ≡ f (getD (list .items) i blank)
-      → take (k + 1) (set now k v) ++ map f (marked (drop (i + 1) (held list)) (drop (i + 1) m)) ≡ take k now ++ map f (marked (drop i (held list)) (drop i m))
-  made-here f now k v y h e = map-marked (held list) m i blank in-l in-m f now k v y h (e ∙ ap f (waiting-at list i in-l))
+      ap (fold f (marked (drop (i + 1) (held row n)) (drop (i + 1) m))) (e ∙ ap (λ w. pick (getD m i false) (f s w) s) (waiting-at row n i in-l))
+      ∙ fold-marked (held row n) m i blank in-l in-m f s
 
 -- as many marks as wait
 pub all-marks : (n : ℕ) (waiting : List Occurrence) → n ≡ length waiting → padded 16 (replicate n true) ≡ andCandidates waiting
@@ -186,18 +178,10 @@ unfolding chosen contextOf
 chosen-is ratio x row waiting candidates t r e f g = rw (← e) (λ i. record { candidates = candidates; taken = f i; removed = (g ∙ ap (removedOf (removesOf (row .removed)) candidates) f) i })
 
 -- ---- what is made
-module _ (ratio : ℕ) (o all : Occurrence) (waiting : List Occurrence) (m : List Bool) (first n : ℕ) (at : first ≡ firstMark m) (many : n ≡ length waiting) where
-  pub together-some : n ≤ 16 → length m ≡ 16 → all ≡ fold (combinedOf ratio) (marked waiting m) o → first < n → all ∷ [] ≡ madeOf together ratio (marked waiting m) o
-  unfolding madeOf
-  together-some few long e h =
-      let (w, rest, f) = marked-some waiting m (omega arith) (omega arith) in
-      rw f (ap (λ x. x ∷ []) (e ∙ ap (λ l. fold (combinedOf ratio) l o) f ∙ combination-fold ratio o w rest))
-
-  pub together-none : n ≤ first → [] ≡ madeOf together ratio (marked waiting m) o
-  unfolding madeOf
-  together-none h = let f : marked waiting m ≡ [] = marked-none waiting m (omega arith) in rw f
-
-pub make-is : (context ratio : ℕ) (row : Row) (those : List Occurrence) (o : Occurrence) (made : List Occurrence) (x : Findings) → contextOf row ≡ rowOf context
-    → findsOf (row .findings) ≡ x → made ≡ madeOf x ratio those o → made ≡ madeOf (rowOf context .finds) ratio those o
+pub finds-each : (x : Context) (row : Row) → contextOf row ≡ x → row .findings ≡ 0 → x .finds ≡ each
 unfolding contextOf
-make-is context ratio row those o made x e f g = g ∙ ap (λ y. madeOf y ratio those o) (sym f ∙ ap (λ s. s .finds) e)
+finds-each x row e f = sym (ap (λ s. s .finds) e) ∙ code-each (row .findings) f
+
+pub finds-together : (x : Context) (row : Row) → contextOf row ≡ x → (row .findings ≡ 0 → ⊥) → x .finds ≡ together
+unfolding contextOf
+finds-together x row e n = sym (ap (λ s. s .finds) e) ∙ code-together (row .findings) n

@@ -1,21 +1,19 @@
-// What each context takes, makes and removes: document 01's table of four rows, the choice, and what is made of it.
-use occurrences::Occurrence;
-use waiting_lists::WaitingList;
-ghost use mathlib.Core.Bool.{_&&_};
-ghost use mathlib.Core.List.{map};
+// What each context takes, makes and removes: document 01's table of four rows, the choice, and what is made of those taken.
+ghost use mathlib.Core.Bool.{_&&_, false, true};
+ghost use mathlib.Core.List.{List};
 ghost use mathlib.Core.Path.{_≡_};
-ghost use Prim.Native.Nat.{_<_, _≤_};
+ghost use Prim.Native.Nat.{min, _<_};
 ghost use lib.ListN.{getD, length};
 ghost use Rattle.sequences.specs.Choice.{pick};
 ghost use Rattle.sequences.specs.Loops.{fold};
 ghost use Rattle.sequences.specs.Marks.{marked};
 ghost use Rattle.sequences.specs.Select.{any};
+ghost use Rattle.occurrences.specs.declared.Occurrence.{Occurrence};
 ghost use Rattle.occurrences.specs.Combination.{combinedOf};
-ghost use Rattle.waiting_lists.specs.Waiting.{held};
+ghost use Rattle.occurrences.specs.Packed.{held, occurrenceOf};
 ghost use Rattle.contexts.specs.Choice.{andCandidates, chosen, removedOf, removes, seqCandidates, takenOf, takes};
-ghost use Rattle.contexts.specs.Made.{madeIn, madeOf};
 ghost use Rattle.contexts.specs.Steps.{barsOf};
-ghost use Rattle.contexts.specs.Table.{recent, removesOf, rowOf, contextOf, table, takesOf, together as allTogether};
+ghost use Rattle.contexts.specs.Table.{contextOf, each, recent, removesOf, rowOf, table, takesOf, together};
 
 // ---- the table
 
@@ -97,25 +95,29 @@ pub fn row_of(context: u64) -> Row
 // ---- candidates
 
 // SEQ: those whose timestamp is before the arrival's.
-pub fn before_arrival(list: WaitingList, o: Occurrence, ratio: u64) -> [bool; 16]
-    ensures { λ r. ⌜ r ≡ seqCandidates ratio (held list) o ⌝ }
+pub fn before_arrival(
+    list: &[[u64; 10]; 16],
+    waiting: usize,
+    o: &[u64; 10],
+    ratio: u64,
+) -> [bool; 16]
+    ensures { λ r. ⌜ r ≡ seqCandidates ratio (held (now (list .entry)) waiting) (occurrenceOf (now (o .entry))) ⌝ }
 {
-    let n = waiting_lists::count(list);
+    let n = waiting_lists::count_in(list, waiting);
     let mut marks = [false; 16];
     let mut i: usize = 0;
     while i < n {
-        let w = list.items[i];
-        marks[i] = w.before(o, ratio);
+        marks[i] = occurrences::before(&list[i], o, ratio);
         i = i + 1;
     }
     marks
 }
 
 // AND: all that wait on the other side.
-pub fn all_waiting(list: WaitingList) -> [bool; 16]
-    ensures { λ r. ⌜ r ≡ andCandidates (held list) ⌝ }
+pub fn all_waiting(waiting: usize) -> [bool; 16]
+    ensures { λ r. ⌜ ((l : List Occurrence) → length l ≡ min waiting 16 → r ≡ andCandidates l) ⌝ }
 {
-    let n = waiting_lists::count(list);
+    let n = waiting_lists::count(waiting);
     let mut marks = [false; 16];
     let mut i: usize = 0;
     while i < n {
@@ -135,29 +137,35 @@ pub struct Choice {
 }
 
 // Whether c, where it is a candidate, keeps w from being taken.
-fn bars(mark: bool, rule: u64, w: Occurrence, c: Occurrence, ratio: u64) -> bool
-    ensures { λ r. ⌜ r ≡ (mark && barsOf (takesOf rule) ratio w c) ⌝ }
+fn bars(mark: bool, rule: u64, w: &[u64; 10], c: &[u64; 10], ratio: u64) -> bool
+    ensures { λ r. ⌜ r ≡ (mark && barsOf (takesOf rule) ratio (occurrenceOf (now (w .entry))) (occurrenceOf (now (c .entry)))) ⌝ }
 {
     if !mark {
         false
     } else if rule == Row::LATEST {
-        w.before(c, ratio)
+        occurrences::before(w, c, ratio)
     } else if rule == Row::EARLIEST {
-        c.before(w, ratio)
+        occurrences::before(c, w, ratio)
     } else {
         false
     }
 }
 
 // Whether some candidate does.
-fn barred(rule: u64, w: Occurrence, list: WaitingList, candidates: [bool; 16], ratio: u64) -> bool
-    ensures { λ r. ⌜ r ≡ any (barsOf (takesOf rule) ratio w) (marked (held list) candidates) ⌝ }
+fn barred(
+    rule: u64,
+    w: &[u64; 10],
+    list: &[[u64; 10]; 16],
+    waiting: usize,
+    candidates: [bool; 16],
+    ratio: u64,
+) -> bool
+    ensures { λ r. ⌜ r ≡ any (barsOf (takesOf rule) ratio (occurrenceOf (now (w .entry)))) (marked (held (now (list .entry)) waiting) candidates) ⌝ }
 {
-    let n = waiting_lists::count(list);
+    let n = waiting_lists::count_in(list, waiting);
     let mut j: usize = 0;
     while j < n {
-        let c = list.items[j];
-        if bars(candidates[j], rule, w, c, ratio) {
+        if bars(candidates[j], rule, w, &list[j], ratio) {
             return true;
         }
         j = j + 1;
@@ -169,32 +177,46 @@ fn barred(rule: u64, w: Occurrence, list: WaitingList, candidates: [bool; 16], r
 fn is_taken(
     mark: bool,
     rule: u64,
-    w: Occurrence,
-    list: WaitingList,
+    w: &[u64; 10],
+    list: &[[u64; 10]; 16],
+    waiting: usize,
     candidates: [bool; 16],
     ratio: u64,
 ) -> bool
-    ensures { λ r. ⌜ r ≡ (mark && takes (takesOf rule) ratio (marked (held list) candidates) w) ⌝ }
+    ensures { λ r. ⌜ r ≡ (mark && takes (takesOf rule) ratio (marked (held (now (list .entry)) waiting) candidates) (occurrenceOf (now (w .entry)))) ⌝ }
 {
     if !mark {
         false
     } else if Row::EVERY <= rule {
         true
     } else {
-        !barred(rule, w, list, candidates, ratio)
+        !barred(rule, w, list, waiting, candidates, ratio)
     }
 }
 
 // Those that a rule takes of the candidates.
-fn taken_by(rule: u64, list: WaitingList, candidates: [bool; 16], ratio: u64) -> [bool; 16]
-    ensures { λ r. ⌜ r ≡ takenOf (takesOf rule) ratio (held list) candidates ⌝ }
+fn taken_by(
+    rule: u64,
+    list: &[[u64; 10]; 16],
+    waiting: usize,
+    candidates: [bool; 16],
+    ratio: u64,
+) -> [bool; 16]
+    ensures { λ r. ⌜ r ≡ takenOf (takesOf rule) ratio (held (now (list .entry)) waiting) candidates ⌝ }
 {
-    let n = waiting_lists::count(list);
+    let n = waiting_lists::count_in(list, waiting);
     let mut marks = [false; 16];
     let mut i: usize = 0;
     while i < n {
-        let w = list.items[i];
-        marks[i] = is_taken(candidates[i], rule, w, list, candidates, ratio);
+        marks[i] = is_taken(
+            candidates[i],
+            rule,
+            &list[i],
+            list,
+            waiting,
+            candidates,
+            ratio,
+        );
         i = i + 1;
     }
     marks
@@ -227,11 +249,17 @@ fn removed_by(rule: u64, candidates: [bool; 16], taken: [bool; 16]) -> [bool; 16
 }
 
 // What a context takes and removes of the candidates of a waiting list.
-pub fn choose(context: u64, list: WaitingList, candidates: [bool; 16], ratio: u64) -> Choice
-    ensures { λ r. ⌜ r ≡ chosen (rowOf context) ratio (held list) candidates ⌝ }
+pub fn choose(
+    context: u64,
+    list: &[[u64; 10]; 16],
+    waiting: usize,
+    candidates: [bool; 16],
+    ratio: u64,
+) -> Choice
+    ensures { λ r. ⌜ r ≡ chosen (rowOf context) ratio (held (now (list .entry)) waiting) candidates ⌝ }
 {
     let row = row_of(context);
-    let taken = taken_by(row.taken, list, candidates, ratio);
+    let taken = taken_by(row.taken, list, waiting, candidates, ratio);
     let removed = removed_by(row.removed, candidates, taken);
     Choice {
         candidates: candidates,
@@ -242,94 +270,41 @@ pub fn choose(context: u64, list: WaitingList, candidates: [bool; 16], ratio: u6
 
 // ---- what is made of it
 
-// The occurrences that one arrival makes, in order.
-pub struct Made {
-    pub items: [Occurrence; 16],
-    pub len: usize,
-}
-
-// How many were made.
-pub fn count_made(made: Made) -> usize
-    ensures { λ r. ⌜ (r ≡ length (madeIn made)) × (r ≤ 16) ⌝ }
+// Whether a context makes one for each taken, or one for all together.
+pub fn makes_each(context: u64) -> bool
+    ensures { λ r. ⌜ (r ≡ true → rowOf context .finds ≡ each) × (r ≡ false → rowOf context .finds ≡ together) ⌝ }
 {
-    let n = made.len;
-    if 16 < n { 16 } else { n }
-}
-
-// One for each taken, in waiting order.
-fn each_combined(list: WaitingList, taken: [bool; 16], o: Occurrence, ratio: u64) -> Made
-    ensures { λ r. ⌜ madeIn r ≡ map (λ w. combinedOf ratio w o) (marked (held list) taken) ⌝ }
-{
-    let n = waiting_lists::count(list);
-    let nothing = Occurrence::none();
-    let mut items = [nothing; 16];
-    let mut k: usize = 0;
-    let mut i: usize = 0;
-    while i < n {
-        let next = i + 1;
-        if taken[i] {
-            let w = list.items[i];
-            items[k] = w.combined(o, ratio);
-            k = k + 1;
-        }
-        i = next;
-    }
-    Made {
-        items: items,
-        len: k,
-    }
+    let row = row_of(context);
+    row.findings == Row::EACH
 }
 
 // The arrival combined with w, where that is taken.
-fn combined_if(mark: bool, o: Occurrence, w: Occurrence, ratio: u64) -> Occurrence
-    ensures { λ r. ⌜ r ≡ pick mark (combinedOf ratio o w) o ⌝ }
+fn combined_if(mark: bool, o: &[u64; 10], w: &[u64; 10], ratio: u64) -> [u64; 10]
+    ensures { λ r. ⌜ occurrenceOf r ≡ pick mark (combinedOf ratio (occurrenceOf (now (o .entry))) (occurrenceOf (now (w .entry)))) (occurrenceOf (now (o .entry))) ⌝ }
 {
-    if mark { o.combined(w, ratio) } else { o }
+    if mark {
+        occurrences::combined(o, w, ratio)
+    } else {
+        *o
+    }
 }
 
 // The arrival combined with all taken, in waiting order.
-fn all_combined(list: WaitingList, taken: [bool; 16], o: Occurrence, ratio: u64) -> Occurrence
-    ensures { λ r. ⌜ r ≡ fold (combinedOf ratio) (marked (held list) taken) o ⌝ }
+pub fn all_combined(
+    list: &[[u64; 10]; 16],
+    waiting: usize,
+    taken: [bool; 16],
+    o: &[u64; 10],
+    ratio: u64,
+) -> [u64; 10]
+    ensures { λ r. ⌜ occurrenceOf r ≡ fold (combinedOf ratio) (marked (held (now (list .entry)) waiting) taken) (occurrenceOf (now (o .entry))) ⌝ }
 {
-    let n = waiting_lists::count(list);
-    let mut all = o;
+    let n = waiting_lists::count_in(list, waiting);
+    let mut all = *o;
     let mut i: usize = 0;
     while i < n {
-        let w = list.items[i];
-        all = combined_if(taken[i], all, w, ratio);
+        all = combined_if(taken[i], &all, &list[i], ratio);
         i = i + 1;
     }
     all
-}
-
-// One for all together, if any is taken.
-fn together(list: WaitingList, taken: [bool; 16], o: Occurrence, ratio: u64) -> Made
-    ensures { λ r. ⌜ madeIn r ≡ madeOf allTogether ratio (marked (held list) taken) o ⌝ }
-{
-    let first = waiting_lists::first_marked(taken);
-    let n = waiting_lists::count(list);
-    let all = all_combined(list, taken, o, ratio);
-    if first < n {
-        Made {
-            items: [all; 16],
-            len: 1,
-        }
-    } else {
-        Made {
-            items: [all; 16],
-            len: 0,
-        }
-    }
-}
-
-// What an arrival makes of those taken.
-pub fn make(context: u64, list: WaitingList, taken: [bool; 16], o: Occurrence, ratio: u64) -> Made
-    ensures { λ r. ⌜ madeIn r ≡ madeOf (rowOf context .finds) ratio (marked (held list) taken) o ⌝ }
-{
-    let row = row_of(context);
-    if row.findings == Row::EACH {
-        each_combined(list, taken, o, ratio)
-    } else {
-        together(list, taken, o, ratio)
-    }
 }

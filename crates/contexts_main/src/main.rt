@@ -1,26 +1,30 @@
 // Runs append, remove and the four contexts, and prints what is made and what is left.
 use event_sets::EventSet;
-use occurrences::Occurrence;
 use timestamps::LocalTick;
-use waiting_lists::WaitingList;
+ghost use Prim.Native.Nat.{_<_};
 
 const RATIO: u64 = 10;
 
-fn event(logger: u8, tick: u64, number: usize) -> Occurrence {
+fn event(logger: u8, tick: u64, number: usize) -> [u64; 10]
+    requires { ⌜ tick < 1000 ⌝ }
+{
     let t = LocalTick(tick);
-    Occurrence::of_event(logger, t, number)
+    occurrences::of_event(logger, t, number)
 }
 
-fn with(list: WaitingList, o: Occurrence) -> WaitingList {
-    waiting_lists::append_to(list, o)
+fn add(list: &mut [[u64; 10]; 16], n: usize, logger: u8, tick: u64, number: usize) -> usize
+    requires { ⌜ tick < 1000 ⌝ }
+{
+    let o = event(logger, tick, number);
+    waiting_lists::append_to(list, n, &o)
 }
 
 // Four wait: logger 1 at 80 and 95, logger 3 at 100, logger 2 at 300.
-fn waiting() -> WaitingList {
-    let a = with(waiting_lists::none(), event(1, 80, 0));
-    let b = with(a, event(1, 95, 1));
-    let c = with(b, event(3, 100, 3));
-    with(c, event(2, 300, 4))
+fn wait_four(list: &mut [[u64; 10]; 16]) -> usize {
+    let a = add(list, 0, 1, 80, 0);
+    let b = add(list, a, 1, 95, 1);
+    let c = add(list, b, 3, 100, 3);
+    add(list, c, 2, 300, 4)
 }
 
 fn write(text: &[u8]) {
@@ -38,8 +42,9 @@ fn write_element(set: EventSet, number: usize) {
     }
 }
 
-fn write_events(o: Occurrence) {
-    let set = o.events;
+fn write_events(o: &[u64; 10]) {
+    let w = occurrences::unpacked(o);
+    let set = w.events;
     let mut i: usize = 0;
     while i < 128 {
         write_element(set, i);
@@ -48,82 +53,124 @@ fn write_events(o: Occurrence) {
     write(b",");
 }
 
-fn write_waiting(list: WaitingList) {
-    let n = waiting_lists::count(list);
+fn write_waiting(list: &[[u64; 10]; 16], waiting: usize) {
+    let n = waiting_lists::count(waiting);
     let mut i: usize = 0;
     while i < n {
-        let o = list.items[i];
-        write_events(o);
+        write_events(&list[i]);
         i = i + 1;
     }
 }
 
-fn write_made(made: contexts::Made) {
-    let n = contexts::count_made(made);
+fn write_combined(mark: bool, w: &[u64; 10], o: &[u64; 10]) {
+    if mark {
+        let c = occurrences::combined(w, o, RATIO);
+        write_events(&c);
+    }
+}
+
+// One for each taken.
+fn write_each(list: &[[u64; 10]; 16], waiting: usize, taken: [bool; 16], o: &[u64; 10]) {
+    let n = waiting_lists::count(waiting);
     let mut i: usize = 0;
     while i < n {
-        let o = made.items[i];
-        write_events(o);
+        write_combined(taken[i], &list[i], o);
         i = i + 1;
+    }
+}
+
+// One for all together, if any is taken.
+fn write_together(list: &[[u64; 10]; 16], waiting: usize, taken: [bool; 16], o: &[u64; 10]) {
+    let first = waiting_lists::first_marked(taken);
+    let n = waiting_lists::count(waiting);
+    if first < n {
+        let all = contexts::all_combined(list, waiting, taken, o, RATIO);
+        write_events(&all);
+    }
+}
+
+fn write_made(
+    context: u64,
+    list: &[[u64; 10]; 16],
+    waiting: usize,
+    taken: [bool; 16],
+    o: &[u64; 10],
+) {
+    if contexts::makes_each(context) {
+        write_each(list, waiting, taken, o);
+    } else {
+        write_together(list, waiting, taken, o);
     }
 }
 
 // What an arrival makes and leaves, by the candidates that are marked.
-fn work(context: u64, list: WaitingList, candidates: [bool; 16], o: Occurrence) {
-    let c = contexts::choose(context, list, candidates, RATIO);
+fn work(
+    context: u64,
+    list: &mut [[u64; 10]; 16],
+    waiting: usize,
+    candidates: [bool; 16],
+    o: &[u64; 10],
+) {
+    let c = contexts::choose(context, list, waiting, candidates, RATIO);
     let taken = c.taken;
     let removed = c.removed;
-    let made = contexts::make(context, list, taken, o, RATIO);
-    let left = waiting_lists::remove_from(list, removed);
     write(b" makes");
-    write_made(made);
+    write_made(context, list, waiting, taken, o);
+    let left = waiting_lists::remove_from(list, waiting, removed);
     write(b" leaves");
-    write_waiting(left);
+    write_waiting(list, left);
     write(b"\n");
 }
 
 fn seq(context: u64, name: &[u8]) {
-    let list = waiting();
+    let nothing = [0u64; 10];
+    let mut list = [nothing; 16];
+    let n = wait_four(&mut list);
     let o = event(2, 120, 2);
-    let candidates = contexts::before_arrival(list, o, RATIO);
+    let candidates = contexts::before_arrival(&list, n, &o, RATIO);
     write(b"SEQ ");
     write(name);
-    work(context, list, candidates, o);
+    work(context, &mut list, n, candidates, &o);
 }
 
 fn and(context: u64, name: &[u8]) {
-    let list = waiting();
+    let nothing = [0u64; 10];
+    let mut list = [nothing; 16];
+    let n = wait_four(&mut list);
     let o = event(2, 120, 2);
-    let candidates = contexts::all_waiting(list);
+    let candidates = contexts::all_waiting(n);
     write(b"AND ");
     write(name);
-    work(context, list, candidates, o);
+    work(context, &mut list, n, candidates, &o);
 }
 
 // One more, and a line where the list is full.
-fn one_more(list: WaitingList, number: usize) -> WaitingList {
-    if waiting_lists::is_full(list) {
+fn one_more(list: &mut [[u64; 10]; 16], n: usize, number: usize) -> usize {
+    if 16 <= n {
         write(b"full at");
         write_number(number);
         write(b"\n");
     }
-    waiting_lists::append_to(list, event(1, 7, number))
+    add(list, n, 1, 7, number)
 }
 
 // Sixteen wait and no more; two leave, and a freed place is used again.
 fn fill() {
-    let mut list = waiting_lists::none();
+    let nothing = [0u64; 10];
+    let mut list = [nothing; 16];
+    let mut n: usize = 0;
     let mut i: usize = 0;
     while i < 18 {
-        list = one_more(list, i);
+        n = one_more(&mut list, n, i);
         i = i + 1;
     }
     let mut gone = [false; 16];
     gone[0] = true;
     gone[14] = true;
-    let fewer = waiting_lists::remove_from(list, gone);
+    let fewer = waiting_lists::remove_from(&mut list, n, gone);
     write(b"waiting");
-    write_waiting(one_more(fewer, 100));
+    let all = one_more(&mut list, fewer, 100);
+    write_waiting(&list, all);
     write(b"\n");
 }
 

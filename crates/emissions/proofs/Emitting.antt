@@ -1,31 +1,14 @@
 -- One finding: which way it goes.
-use mathlib.Core.Bool.{Bool, true, false}
+use mathlib.Core.Bool.{true, false}
 use mathlib.Core.List.{List, [], _∷_, _++_}
-use mathlib.Core.Path.{_≡_, refl, sym, ap, _∙_}
-use Prim.Native.Nat.{ℕ, _+_, _-_, _≤_, _<_}
-use native.Mathlib.Omega.{arith}
-use lib.Dec.{leb, ltb}
-use lib.ListN.{length, set, take}
+use mathlib.Core.Path.{_≡_}
+use Prim.Native.Nat.{ℕ, _+_, _≤_, _<_}
+use lib.ListN.{length}
 use borrow.Author.Tests.{le-leb, lt-leb, lt-ltb, le-ltb}
-use Rattle.sequences.specs.Choice.{pick}
-use Rattle.sequences.proofs.Arrays.{append-room, count-within, count-full}
 use Rattle.occurrences.specs.declared.Occurrence.{Occurrence}
 use Rattle.emissions.specs.declared.Limit.the-variants.{None, NodeFull, OutputFull}
-use Rattle.emissions.specs.Emissions.{Emitting, bytesOf, emitted, ended, moreMade, numberOf, reached}
+use Rattle.emissions.specs.Emissions.{Emitting, bytesOf, emitted, ended, numberOf, reached}
 
--- ---- one more of those made
-module _ (items : List Occurrence) (n : ℕ) (full : length items ≡ 8) (o : Occurrence) where
-  pub more-room : n < 8 → take (n + 1) (set items n o) ≡ moreMade (take n items) o
-  unfolding moreMade
-  more-room h =
-      let k : length (take n items) ≡ n = sym (count-within 8 items n full (omega arith)) in
-      rw (k, lt-leb 8 n h, append-room 8 items n full o h)
-
-  pub more-full : 8 ≤ n → take n items ≡ moreMade (take n items) o
-  unfolding moreMade
-  more-full h = let k : length (take n items) ≡ 8 = sym (count-full 8 items n full h) in rw k
-
--- ---- one finding
 module _ (room : ℕ) (loggers : List ℕ) (place : ℕ) (e : Emitting) (o : Occurrence) where
   pub emit-stopped : reached (e .limit) ≡ true → e ≡ emitted room loggers place e o
   unfolding emitted
@@ -41,7 +24,7 @@ module _ (room : ℕ) (loggers : List ℕ) (place : ℕ) (e : Emitting) (o : Occ
   emit-no-room h k g = rw (h, lt-leb 8 (length (e .made)) k, lt-ltb room _ g)
 
   pub emit-go : (made′ : List Occurrence) (bytes′ : List ℕ) → reached (e .limit) ≡ false → length (e .made) < 8 → length (e .bytes) + length (bytesOf loggers place o) ≤ room
-      → made′ ≡ moreMade (e .made) o → bytes′ ≡ e .bytes ++ bytesOf loggers place o
+      → made′ ≡ e .made ++ (o ∷ []) → bytes′ ≡ e .bytes ++ bytesOf loggers place o
       → _≡_ {A = Emitting} (record { made = made′; findings = e .findings + 1; bytes = bytes′; limit = numberOf None }) (emitted room loggers place e o)
-  unfolding emitted moreMade
+  unfolding emitted
   emit-go made′ bytes′ h k g p q = rw (p, q, h, lt-leb 8 (length (e .made)) k, le-ltb room _ g)

@@ -9,10 +9,10 @@ use Rattle.sequences.specs.Loops.{fold}
 use Rattle.detections.specs.Findings.{findingBytes}
 use Rattle.detections.specs.Views.{findingOf}
 use Rattle.occurrences.specs.declared.Occurrence.{Occurrence}
+use Rattle.occurrences.specs.Packed.{held}
 use Rattle.emissions.specs.declared.Emit.{Emit}
 use Rattle.emissions.specs.declared.Limit.{Limit}
 use Rattle.emissions.specs.declared.Limit.the-variants.{None, ListFull, NodeFull, OutputFull}
-use Rattle.emissions.specs.declared.Made.{Made}
 
 -- document 01's number of each limit
 unfoldable pub numberOf : Limit → ℕ
@@ -58,12 +58,6 @@ emitted room loggers place e o =
 unfoldable pub emittedAll : ℕ → List ℕ → ℕ → Emitting → List Occurrence → Emitting
 emittedAll room loggers place e l = fold (emitted room loggers place) l e
 
--- ---- what the code's values stand for
-abbrev pub heldMade : Made → List Occurrence
-heldMade m = take (m .len) (m .items)
-
-unfoldable pub moreMade : List Occurrence → Occurrence → List Occurrence
-moreMade l o = pick (leb 8 (length l)) l (l ++ (o ∷ []))
-
-abbrev pub emitOf : Emit → List ℕ → Emitting
-emitOf e out = record { made = heldMade (e .made); findings = e .findings; bytes = take (e .at) out; limit = numberOf (e .limit) }
+-- ---- what the code's values stand for: e and the row of what the node made, beside the output
+abbrev pub emitOf : Emit → List (List ℕ) → List ℕ → Emitting
+emitOf e made out = record { made = held made (e .made); findings = e .findings; bytes = take (e .at) out; limit = numberOf (e .limit) }

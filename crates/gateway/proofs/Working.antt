@@ -3,9 +3,12 @@ use mathlib.Core.Bool.{true, false}
 use mathlib.Core.List.{List}
 use mathlib.Core.Path.{_≡_, sym, ap, _∙_}
 use Prim.Native.Nat.{ℕ}
+use native.Mathlib.Omega.{arith}
 use lib.Dec.{eqb}
 use lib.ListN.{length}
+use borrow.Author.Tests.{eqb-true}
 use Rattle.sequences.specs.Choice.{pick}
+use Rattle.forms.specs.Bytes.{Bytes}
 use Rattle.plans.specs.Faults.{numberOf as planNumber}
 use Rattle.plans.specs.Reader.{PlanAnswer, readPlan}
 use Rattle.plans.specs.Views.{answerOf, planOf}
@@ -15,9 +18,10 @@ use Rattle.passages.specs.Faults.{numberOf as passageNumber}
 use Rattle.passages.specs.Reader.{PassageAnswer, readPassage}
 use Rattle.passages.specs.Views.{Checked, checkOf, counted}
 use Rattle.passages.specs.declared.PassageCheck.{PassageCheck}
+use Rattle.passages.proofs.Theorems.{accepted-ticks}
 use Rattle.emissions.specs.Emissions.{numberOf, reached}
 use Rattle.detector.specs.Progress.{Progress, runOf}
-use Rattle.detector.specs.Steps.{Says}
+use Rattle.detector.specs.Steps.{Says, TicksFit}
 use Rattle.detector.specs.declared.Run.{Run}
 use Rattle.gateway.specs.declared.Answer.{Answer}
 use Rattle.gateway.specs.Working.{Answers, endOf, passageWorked, planWorked, turnedBack, worked}
@@ -44,6 +48,12 @@ module _ (plan passage : List ℕ) (room : ℕ) (r : PlanRead) (read : answerOf 
 
     pub both-accepted : eqb (passageNumber (c .fault)) 0 ≡ true → worked plan passage room ≡ endOf (runOf room (planOf (r .plan)) (passageEvents (planOf (r .plan)) passage))
     both-accepted e = plan-accepted accepted ∙ rw (← same-number, e)
+
+    -- so each tick plus one fits its word
+    pub ticks-fit : Bytes passage → eqb (passageNumber (c .fault)) 0 ≡ true → TicksFit (passageEvents (planOf (r .plan)) passage)
+    ticks-fit B e i =
+        let z : readPassage (planOf (r .plan)) passage .number ≡ 0 = sym same-number ∙ eqb-true _ _ e in
+        omega (arith, accepted-ticks (planOf (r .plan)) passage B z i)
 
 -- the answer on a run
 pub run-answers : (p : Progress) (out : List ℕ) (r : Run) (out′ : List ℕ) (place number : ℕ) → Says p out r out′ → number ≡ numberOf (r .limit)

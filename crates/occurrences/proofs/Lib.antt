@@ -1,4 +1,11 @@
+pub mod Befores
 pub mod Combination
 pub mod Events
+pub mod FileEvents
+pub mod Floors
+pub mod Joins
 pub mod Latest
 pub mod Order
+pub mod Packed
+pub mod Steps
+pub mod Words

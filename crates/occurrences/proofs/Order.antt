@@ -1,5 +1,5 @@
 -- The order of occurrences, which is that of their composite timestamps.
-use mathlib.Core.Path.{_≡_, ap}
+use mathlib.Core.Path.{_≡_}
 use mathlib.Core.Bool.{Bool, true, false}
 use mathlib.Core.List.{List}
 use mathlib.Core.Logic.{⊎-elim}
@@ -9,8 +9,7 @@ use Rattle.sequences.specs.Select.{any}
 use Rattle.sequences.proofs.Booleans.{never-both, false-of-not-true}
 use Rattle.sequences.proofs.Select.{any-in, any-of, all-in, all-of}
 use Rattle.timestamps.specs.declared.Timestamp.{Timestamp}
-use Rattle.timestamps.specs.declared.Relation.{Relation}
-use Rattle.timestamps.specs.Comparison.{allBefore, relationOf}
+use Rattle.timestamps.specs.Comparison.{allBefore}
 use Rattle.timestamps.specs.Composite.{members}
 use Rattle.timestamps.specs.Maxima.{maxima, StrictOrder}
 use Rattle.timestamps.specs.Order.{before}
@@ -18,11 +17,6 @@ use Rattle.timestamps.proofs.Maxima.{maxima-of, maxima-reach}
 use Rattle.timestamps.proofs.Order.{before-irrefl, before-trans}
 use Rattle.occurrences.specs.declared.Occurrence.{Occurrence}
 use Rattle.occurrences.specs.Occurrences.{isBefore}
-
--- what the comparison answers
-pub before-is : (ratio : ℕ) (a b : Occurrence) (r : Relation) → r ≡ relationOf ratio (members (a .latest)) (members (b .latest)) → r .before ≡ isBefore ratio a b
-unfolding relationOf isBefore
-before-is ratio a b r e = ap (λ q. q .before) e
 
 module _ (ratio : ℕ) where
   -- the order of timestamps, turned round

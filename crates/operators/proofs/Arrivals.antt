@@ -1,42 +1,37 @@
 -- Which way an arrival goes.
-use mathlib.Core.Bool.{Bool, true, false, not, _||_}
-use mathlib.Core.List.{List, [], _∷_, _++_}
-use mathlib.Core.Path.{_≡_, refl, sym, ap, _∙_}
-use Prim.Native.Nat.{ℕ, _+_, _≤_, _<_}
+use mathlib.Core.Bool.{Bool, true, false, not}
+use mathlib.Core.List.{List, [], _∷_}
+use mathlib.Core.Path.{_≡_, refl, ap, _∙_}
+use Prim.Native.Nat.{ℕ, min}
 use native.Mathlib.Omega.{arith}
-use lib.Dec.{eqb, leb, leb·suc-suc, leb·suc-zero}
-use lib.ListN.{drop, getD, length, take}
+use lib.Dec.{eqb}
+use lib.ListN.{length}
 use borrow.Author.Tests.{eq-eqb, ne-eqb}
 use Rattle.sequences.specs.Choice.{pick}
 use Rattle.sequences.specs.Loops.{fold}
-use Rattle.sequences.specs.Marks.{firstMark, marked, padded, unmarked}
+use Rattle.sequences.specs.Marks.{marked, padded, unmarked}
 use Rattle.sequences.specs.Select.{any}
-use Rattle.sequences.proofs.Loops.{fold-none, fold-turn, fold-end}
 use Rattle.occurrences.specs.declared.Occurrence.{Occurrence}
 use Rattle.waiting_lists.specs.Waiting.{appendedTo, isFull}
 use Rattle.contexts.specs.declared.Choice.{Choice}
-use Rattle.contexts.specs.Choice.{andCandidates, chosen, seqCandidates}
+use Rattle.contexts.specs.Choice.{andCandidates, chosen}
 use Rattle.contexts.specs.Made.{madeOf}
 use Rattle.contexts.specs.Table.{rowOf}
-use Rattle.contexts.proofs.Choices.{and-candidates, none-removed}
+use Rattle.contexts.proofs.Choices.{none-removed}
 use Rattle.contexts.proofs.Findings.{none-made}
 use Rattle.plans.specs.declared.Node.{Node}
-use Rattle.emissions.specs.declared.Limit.the-variants.{None, ListFull}
-use Rattle.emissions.specs.Emissions.{Emitting, emitted, emittedAll, ended, numberOf, reached}
+use Rattle.emissions.specs.declared.Limit.the-variants.{ListFull}
+use Rattle.emissions.specs.Emissions.{Emitting, emittedAll, ended, numberOf, reached}
 use Rattle.emissions.proofs.Limits.{emittedAll-still}
-use Rattle.operators.specs.Turns.{Met, Setting, Sides, Turned, andArrived, findingsOf, arrived, joinsBy, leftSides, metBy, nodeTurn, orArrived, restOf, rightSides, seqLeft, seqRight, waited}
+use Rattle.operators.specs.Turns.{Met, Setting, Sides, Turned, andArrived, findingsOf, arrived, joinsBy, leftSides, metBy, orArrived, restOf, rightSides, seqLeft, seqRight, waited}
 
 -- ---- meeting the candidates
-module _ (s : Setting) (node : Node) (place : ℕ) (l : List Occurrence) (candidates : List Bool) (e f : Emitting) (o : Occurrence) (c : Choice) (made : List Occurrence)
+module _ (s : Setting) (node : Node) (place : ℕ) (l : List Occurrence) (candidates : List Bool) (e f : Emitting) (o : Occurrence) (c : Choice)
     (chose : c ≡ chosen (rowOf (node .context)) (s .ratio) l candidates)
-    (found : made ≡ madeOf (rowOf (node .context) .finds) (s .ratio) (marked l (c .taken)) o)
-    (wrote : f ≡ emittedAll (s .room) (s .loggers) place e made) where
-  findings-are : made ≡ findingsOf s node l candidates o
-  unfolding findingsOf
-  findings-are = rw (← chose) found
-
+    (wrote : f ≡ emittedAll (s .room) (s .loggers) place e (madeOf (rowOf (node .context) .finds) (s .ratio) (marked l (c .taken)) o)) where
   emit-is : f ≡ emittedAll (s .room) (s .loggers) place e (findingsOf s node l candidates o)
-  emit-is = wrote ∙ ap (emittedAll (s .room) (s .loggers) place e) findings-are
+  unfolding findingsOf
+  emit-is = rw (← chose) wrote
 
   pub met-stopped : reached (f .limit) ≡ true → _≡_ {A = Met} (record { list = l; emit = f }) (metBy s node place l candidates e o)
   unfolding metBy
@@ -82,52 +77,35 @@ pub joins-recent : (context : ℕ) (candidates : List Bool) → context ≡ 1 �
 unfolding joinsBy
 joins-recent context candidates h = rw (eq-eqb context 1 h)
 
-none-marked : (m : List Bool) → leb (length m) (firstMark m) ≡ not (any (λ b. b) m)
-unfolding firstMark any
-none-marked [] = refl
-none-marked (true ∷ m) = leb·suc-zero (length m)
-none-marked (false ∷ m) = leb·suc-suc (length m) (firstMark m) ∙ none-marked m
+-- of as many as wait on the other side
+any-waits : (n : ℕ) (l : List Occurrence) → length l ≡ min n 16 → eqb n 0 ≡ not (any (λ b. b) (andCandidates l))
+unfolding andCandidates padded any
+any-waits n [] h = eq-eqb n 0 (omega arith)
+any-waits n (w ∷ l) h = ne-eqb n 0 (λ e. omega (arith, e))
 
-pub joins-other : (context : ℕ) (candidates : List Bool) (first : ℕ) → (context ≡ 1 → ⊥) → length candidates ≡ 16 → first ≡ firstMark candidates → leb 16 first ≡ joinsBy context candidates
+pub joins-other : (context n : ℕ) (l : List Occurrence) → (context ≡ 1 → ⊥) → length l ≡ min n 16 → eqb n 0 ≡ joinsBy context (andCandidates l)
 unfolding joinsBy
-joins-other context candidates first h full e = rw (ne-eqb context 1 h, e, ← full) (none-marked candidates)
+joins-other context n l h many = rw (ne-eqb context 1 h) (any-waits n l many)
 
 -- ---- AND
 module _ (s : Setting) (node : Node) (place : ℕ) (own other : List Occurrence) (e : Emitting) (o : Occurrence) (marks : List Bool) (m : Met) (j : Bool)
-    (all : marks ≡ andCandidates other) (met : m ≡ metBy s node place other marks e o) (joins : j ≡ joinsBy (node .context) marks) where
+    (all : marks ≡ andCandidates other) (met : m ≡ metBy s node place other marks e o) (joins : j ≡ joinsBy (node .context) (andCandidates other)) where
   met-all : m ≡ metBy s node place other (andCandidates other) e o
   met-all = met ∙ ap (λ c. metBy s node place other c e o) all
 
-  joins-all : j ≡ joinsBy (node .context) (andCandidates other)
-  joins-all = joins ∙ ap (joinsBy (node .context)) all
-
   pub and-waits : (w : Met) → j ≡ true → w ≡ waited own (m .emit) o → _≡_ {A = Sides} (record { own = w .list; other = m .list; emit = w .emit }) (andArrived s node place own other e o)
   unfolding andArrived
-  and-waits w y x = rw (← met-all, ← joins-all, y, x)
+  and-waits w y x = rw (← met-all, ← joins, y, x)
 
   pub and-gone : j ≡ false → _≡_ {A = Sides} (record { own = own; other = m .list; emit = m .emit }) (andArrived s node place own other e o)
   unfolding andArrived
-  and-gone n = rw (← met-all, ← joins-all, n)
+  and-gone n = rw (← met-all, ← joins, n)
 
 -- after a limit nothing happens
 pub and-still : (s : Setting) (node : Node) (place : ℕ) (own other : List Occurrence) (e : Emitting) (o : Occurrence) → reached (e .limit) ≡ true
     → andArrived s node place own other e o ≡ record { own = own; other = other; emit = e }
 unfolding andArrived
 and-still s node place own other e o h = rw (met-still s node place other (andCandidates other) e o h, ← wait-stopped own e o h) (pick-same (joinsBy (node .context) (andCandidates other)) _)
-
--- where none waits on the other side it waits
-or-true : (b : Bool) → (b || true) ≡ true
-or-true true = refl
-or-true false = refl
-
-none-waits : any (λ b. b) (andCandidates []) ≡ false
-unfolding andCandidates padded any
-none-waits = refl
-
-pub and-alone : (s : Setting) (node : Node) (place : ℕ) (own : List Occurrence) (e : Emitting) (o : Occurrence)
-    → andArrived s node place own [] e o ≡ record { own = waited own e o .list; other = []; emit = waited own e o .emit }
-unfolding andArrived joinsBy
-and-alone s node place own e o = rw (← met-none s node place [] (andCandidates []) e o (and-candidates []), none-waits, or-true (eqb (node .context) 1))
 
 -- ---- the dispatch
 module _ (s : Setting) (node : Node) (place : ℕ) (left : Bool) (t : Turned) (o : Occurrence) where

@@ -1,18 +1,21 @@
 -- A node's turn, from what each operator does over the lists that it touches.
 use mathlib.Core.Bool.{Bool, true, false}
-use mathlib.Core.List.{List, [], _∷_, _++_}
+use mathlib.Core.List.{List, [], _∷_}
 use mathlib.Core.Path.{_≡_, refl, sym, ap, _∙_}
-use Prim.Native.Nat.{ℕ, _+_, _≤_, _<_}
+use Prim.Native.Nat.{ℕ, min, _+_, _≤_, _<_}
 use native.Mathlib.Omega.{arith}
-use native.Mathlib.Decide.{decLt, ℕ-discrete}
+use native.Mathlib.Decide.{decLt}
 use lib.Dec.{ltb}
-use lib.ListN.{length, length-append}
+use lib.ListN.{drop, getD, length, length-append}
 use borrow.Author.Tests.{lt-ltb, le-ltb}
 use Rattle.sequences.specs.Choice.{pick}
 use Rattle.sequences.specs.Loops.{fold}
-use Rattle.sequences.proofs.Loops.{fold-none, fold-next, fold-still}
+use Rattle.sequences.proofs.Loops.{fold-end, fold-none, fold-next, fold-still, fold-turn}
 use Rattle.occurrences.specs.declared.Occurrence.{Occurrence}
-use Rattle.waiting_lists.specs.Waiting.{appendedTo, isFull}
+use Rattle.occurrences.specs.Occurrences.{blank}
+use Rattle.occurrences.specs.Packed.{held, occurrenceOf}
+use Rattle.occurrences.proofs.Packed.{held-at, length-held}
+use Rattle.waiting_lists.specs.Waiting.{appendedTo}
 use Rattle.waiting_lists.proofs.Appends.{appended-room, appended-full}
 use Rattle.contexts.specs.Choice.{seqCandidates}
 use Rattle.plans.specs.declared.Node.{Node}
@@ -20,23 +23,24 @@ use Rattle.emissions.specs.declared.Limit.the-variants.{None, ListFull}
 use Rattle.emissions.specs.Emissions.{Emitting, emitted, emittedAll, ended, numberOf, reached}
 use Rattle.emissions.proofs.Limits.{emitted-still}
 use Rattle.operators.specs.Steps.{andTurn, begun, meeting, metStep, orTurn, seqTurn, sides, sidesStep, swapped, waitStep}
-use Rattle.operators.specs.Turns.{Met, Setting, Sides, Turned, andArrived, arrived, leftSides, metBy, nodeTurn, orArrived, rightSides, seqLeft, seqRight, waited}
-use Rattle.operators.proofs.Arrivals.{and-alone, and-still, arrive-and-left, arrive-and-right, arrive-or, arrive-seq-left, arrive-seq-right, arrive-stopped, met-still, wait-full, wait-goes, wait-stopped}
+use Rattle.operators.specs.Turns.{Met, Setting, Sides, Turned, andArrived, arrived, leftSides, metBy, nodeTurn, orArrived, rightSides, seqLeft, seqRight}
+use Rattle.operators.proofs.Arrivals.{and-still, arrive-and-left, arrive-and-right, arrive-or, arrive-seq-left, arrive-seq-right, arrive-stopped, met-still, wait-full, wait-goes, wait-stopped}
 
 -- a fold seen through g
 fold-through : {S T A : Type 0} (g : T → S) (f : S → A → S) (h : T → A → T) → ((t : T) (a : A) → f (g t) a ≡ g (h t a)) → (l : List A) (t : T) → fold f l (g t) ≡ g (fold h l t)
 fold-through g f h e [] t = fold-none f (g t) ∙ ap g (sym (fold-none h t))
 fold-through g f h e (a ∷ l) t = fold-next f a l (g t) ∙ ap (fold f l) (e t a) ∙ fold-through g f h e l (h t a) ∙ ap g (sym (fold-next h a l t))
 
-pub none-in : {A : Type 0} (l : List A) → length l ≡ 0 → l ≡ []
-none-in [] h = refl
-none-in (a ∷ l) h = absurd (omega arith)
+-- a loop over the first of a row of arrivals
+module _ {S : Type 0} (f : S → Occurrence → S) (row : List (List ℕ)) (count n i : ℕ) (counted : n ≡ min count (length row)) where
+  pub arrival-turn : (s s′ : S) → i < n → s′ ≡ f s (occurrenceOf (getD row i [])) → fold f (drop (i + 1) (held row count)) s′ ≡ fold f (drop i (held row count)) s
+  arrival-turn s s′ h e = fold-turn f (held row count) i s s′ blank (omega (arith, length-held row count)) (e ∙ ap (f s) (sym (held-at row count i (omega arith) (omega arith))))
+
+  pub arrival-end : (s : S) → n ≤ i → fold f (drop i (held row count)) s ≡ s
+  arrival-end s h = fold-end f (held row count) i s (omega (arith, length-held row count))
 
 abbrev pub turn : List Occurrence → List Occurrence → Emitting → Turned
 turn left right e = record { left = left; right = right; emit = e }
-
-pub begun-is : (m : List Occurrence) (findings : ℕ) (bytes : List ℕ) → m ≡ [] → _≡_ {A = Emitting} (record { made = m; findings = findings; bytes = bytes; limit = numberOf None }) (begun findings bytes)
-begun-is m findings bytes h = ap (λ (l : List Occurrence). record { made = l; findings = findings; bytes = bytes; limit = numberOf None }) h
 
 -- ---- one arrival
 module _ (s : Setting) (node : Node) (place : ℕ) where
@@ -110,19 +114,10 @@ module _ (s : Setting) (node : Node) (place : ℕ) where
         ap (leftTurn right) e ∙ sym (ap (fold (arrived s node place false) ra) one ∙ two)
 
   -- ---- an AND node's turn, side by side
-  module _ (left right la ra : List Occurrence) (e₁ e : Emitting) (is : e₁ ≡ e) where
-    pub and-right-only : la ≡ [] → (x : Sides) → x ≡ fold (sidesStep s node place) ra (sides right left e₁) → rightSides x ≡ andTurn s node place left right la ra e
-    unfolding andTurn fold
-    and-right-only z x h = rw z (ap rightSides (h ∙ ap (λ y. fold (sidesStep s node place) ra (sides right left y)) is))
-
-    pub and-left-only : ra ≡ [] → (x : Sides) → x ≡ fold (sidesStep s node place) la (sides left right e₁) → leftSides x ≡ andTurn s node place left right la ra e
-    unfolding andTurn fold
-    and-left-only z x h = rw z (ap leftSides (h ∙ ap (λ y. fold (sidesStep s node place) la (sides left right y)) is))
-
-    pub and-both : (x y : Sides) → x ≡ fold (sidesStep s node place) la (sides left right e₁) → y ≡ fold (sidesStep s node place) ra (sides (x .other) (x .own) (x .emit))
-        → rightSides y ≡ andTurn s node place left right la ra e
-    unfolding andTurn
-    and-both x y h k = ap rightSides (k ∙ ap (λ z. fold (sidesStep s node place) ra (swapped z)) (h ∙ ap (λ z. fold (sidesStep s node place) la (sides left right z)) is))
+  pub and-both : (left right la ra : List Occurrence) (e : Emitting) (x y : Sides) → x ≡ fold (sidesStep s node place) la (sides left right e) → y ≡ fold (sidesStep s node place) ra (swapped x)
+      → rightSides y ≡ andTurn s node place left right la ra e
+  unfolding andTurn
+  and-both left right la ra e x y h k = ap rightSides (k ∙ ap (λ z. fold (sidesStep s node place) ra (swapped z)) h)
 
 -- ---- waiting
 wait-stays : (l : List Occurrence) (m : Met) → reached (m .emit .limit) ≡ true → fold waitStep l m ≡ m
@@ -147,11 +142,11 @@ one-more w e o h k = sym (wait-full w e o h (appended-full w o k .0))
 longer : (w : List Occurrence) (o : Occurrence) → length w < 16 → length (appendedTo w o) ≡ length w + 1
 longer w o k = ap length (appended-room w o k .1) ∙ length-append w (o ∷ [])
 
-pub number-full : reached (numberOf ListFull) ≡ true
+number-full : reached (numberOf ListFull) ≡ true
 unfolding numberOf
 number-full = refl
 
-pub all-wait : (l w : List Occurrence) (e : Emitting) → reached (e .limit) ≡ false → length w ≤ 16 → fold waitStep l (meeting w e) ≡ allWaited l w e
+all-wait : (l w : List Occurrence) (e : Emitting) → reached (e .limit) ≡ false → length w ≤ 16 → fold waitStep l (meeting w e) ≡ allWaited l w e
 all-wait [] w e h k = fold-none waitStep (meeting w e) ∙ rw (fold-none appendedTo w, le-ltb 16 (length w + 0) (omega arith))
 all-wait (o ∷ l) w e h k = elim (decLt (length w) 16) [
   | yes y ↦ (let n : length (appendedTo w o) + length l ≡ length w + length (o ∷ l) = omega (arith, longer w o y) in
@@ -163,78 +158,31 @@ all-wait (o ∷ l) w e h k = elim (decLt (length w) 16) [
 ]
 
 -- ---- a SEQ node's turn
-module _ (s : Setting) (node : Node) (place : ℕ) (left la ra : List Occurrence) (e₁ e : Emitting) (is : e₁ ≡ e) (goes : reached (e .limit) ≡ false) (few : length left ≤ 16)
+module _ (s : Setting) (node : Node) (place : ℕ) (left la ra : List Occurrence) (e : Emitting) (goes : e .limit ≡ 0) (few : length left ≤ 16)
     (l : List Occurrence) (waits : l ≡ fold appendedTo la left) where
-  pub seq-over : (f : Emitting) → ltb 16 (length left + length la) ≡ true → f ≡ ended e₁ (numberOf ListFull) → meeting l f ≡ seqTurn s node place left la ra e
+  unreached : reached (e .limit) ≡ false
+  unreached = rw goes
+
+  pub seq-over : (f : Emitting) → ltb 16 (length left + length la) ≡ true → f ≡ ended e (numberOf ListFull) → meeting l f ≡ seqTurn s node place left la ra e
   unfolding seqTurn
   seq-over f h g =
       let m : Met = meeting (fold appendedTo la left) (ended e (numberOf ListFull)) in
-      let w : fold waitStep la (meeting left e) ≡ m = all-wait la left e goes few ∙ rw h in
-      let n : meeting l f ≡ m = ap (λ k. meeting k f) waits ∙ ap (meeting (fold appendedTo la left)) (g ∙ ap (λ x. ended x (numberOf ListFull)) is) in
+      let w : fold waitStep la (meeting left e) ≡ m = all-wait la left e unreached few ∙ rw h in
+      let n : meeting l f ≡ m = ap (λ k. meeting k f) waits ∙ ap (meeting (fold appendedTo la left)) g in
       n ∙ sym (ap (fold (metStep s node place) ra) w ∙ met-stays s node place ra m number-full)
 
-  pub seq-goes : (m : Met) → ltb 16 (length left + length la) ≡ false → m ≡ fold (metStep s node place) ra (meeting l e₁) → m ≡ seqTurn s node place left la ra e
+  pub seq-goes : (m : Met) → ltb 16 (length left + length la) ≡ false → m ≡ fold (metStep s node place) ra (meeting l e) → m ≡ seqTurn s node place left la ra e
   unfolding seqTurn
   seq-goes m h g =
-      let w : fold waitStep la (meeting left e) ≡ meeting (fold appendedTo la left) e = all-wait la left e goes few ∙ rw h in
-      let n : meeting l e₁ ≡ meeting (fold appendedTo la left) e = ap (λ k. meeting k e₁) waits ∙ ap (meeting (fold appendedTo la left)) is in
-      g ∙ ap (fold (metStep s node place) ra) (n ∙ sym w)
+      let w : fold waitStep la (meeting left e) ≡ meeting (fold appendedTo la left) e = all-wait la left e unreached few ∙ rw h in
+      g ∙ ap (fold (metStep s node place) ra) (ap (λ k. meeting k e) waits ∙ sym w)
 
-pub number-none : reached (numberOf None) ≡ false
+pub number-none : numberOf None ≡ 0
 unfolding numberOf
 number-none = refl
 
 -- ---- an OR node's turn
-pub or-two : (room : ℕ) (loggers : List ℕ) (place : ℕ) (la ra : List Occurrence) (e₁ e f g : Emitting) → e₁ ≡ e → f ≡ emittedAll room loggers place e₁ la → g ≡ emittedAll room loggers place f ra
+pub or-both : (room : ℕ) (loggers : List ℕ) (place : ℕ) (la ra : List Occurrence) (e f g : Emitting) → f ≡ emittedAll room loggers place e la → g ≡ emittedAll room loggers place f ra
     → g ≡ orTurn room loggers place la ra e
 unfolding orTurn
-or-two room loggers place la ra e₁ e f g is h k = k ∙ ap (λ x. emittedAll room loggers place x ra) (h ∙ ap (λ x. emittedAll room loggers place x la) is)
-
--- ---- those that arrive only wait
-module _ (s : Setting) (node : Node) (place : ℕ) where
-  and-left-alone : (m : Met) (o : Occurrence) → (node .operator ≡ 1 → ⊥) → node .operator ≡ 2 → arrived s node place true (turn (m .list) [] (m .emit)) o ≡ turn (waitStep m o .list) [] (waitStep m o .emit)
-  unfolding sidesStep waitStep
-  and-left-alone m o n h =
-      and-left-by s node place (sides (m .list) [] (m .emit)) o (reached (m .emit .limit)) n h refl ∙ ap leftSides (and-alone s node place (m .list) (m .emit) o)
-
-  and-right-alone : (m : Met) (o : Occurrence) → (node .operator ≡ 1 → ⊥) → node .operator ≡ 2 → arrived s node place false (turn [] (m .list) (m .emit)) o ≡ turn [] (waitStep m o .list) (waitStep m o .emit)
-  unfolding sidesStep waitStep
-  and-right-alone m o n h =
-      and-right-by s node place (sides (m .list) [] (m .emit)) o (reached (m .emit .limit)) n h refl ∙ ap rightSides (and-alone s node place (m .list) (m .emit) o)
-
-  module _ (left right la ra : List Occurrence) (findings : ℕ) (bytes : List ℕ) where
-    abbrev none-yet : Emitting
-    none-yet = begun findings bytes
-
-    -- on the left
-    module _ (none : ra ≡ []) (n : node .operator ≡ 1 → ⊥) (alone : node .operator ≡ 2 → right ≡ []) (few : length left ≤ 16) where
-      left-folds : fold (arrived s node place true) la (turn left right none-yet) ≡ turn (allWaited la left none-yet .list) right (allWaited la left none-yet .emit)
-      left-folds = elim (ℕ-discrete (node .operator) 2) [
-        | yes h ↦ rw (alone h) (fold-through (λ (m : Met). turn (m .list) [] (m .emit)) (arrived s node place true) waitStep (λ m o. and-left-alone m o n h) la (meeting left none-yet)
-            ∙ ap (λ (m : Met). turn (m .list) [] (m .emit)) (all-wait la left none-yet number-none few))
-        | no h ↦ (fold-through (λ (m : Met). turn (m .list) right (m .emit)) (arrived s node place true) waitStep (λ m o. seq-left-by s node place right m o (reached (m .emit .limit)) n h refl) la (meeting left none-yet)
-            ∙ ap (λ (m : Met). turn (m .list) right (m .emit)) (all-wait la left none-yet number-none few))
-      ]
-
-      pub left-over : ltb 16 (length left + length la) ≡ true → turn (fold appendedTo la left) right (ended none-yet (numberOf ListFull)) ≡ nodeTurn s node place left right la ra findings bytes
-      unfolding nodeTurn fold
-      left-over h = rw none (sym (left-folds ∙ rw h))
-
-      pub left-waited : ltb 16 (length left + length la) ≡ false → (l : List Occurrence) → l ≡ fold appendedTo la left → turn l right none-yet ≡ nodeTurn s node place left right la ra findings bytes
-      unfolding nodeTurn fold
-      left-waited h l e = rw (none, e) (sym (left-folds ∙ rw h))
-
-    -- on the right
-    module _ (none : la ≡ []) (h : node .operator ≡ 2) (alone : left ≡ []) (few : length right ≤ 16) where
-      right-folds : fold (arrived s node place false) ra (turn left right none-yet) ≡ turn left (allWaited ra right none-yet .list) (allWaited ra right none-yet .emit)
-      right-folds =
-          rw alone (fold-through (λ (m : Met). turn [] (m .list) (m .emit)) (arrived s node place false) waitStep (λ m o. and-right-alone m o (λ y. absurd (omega (arith, h, y))) h) ra (meeting right none-yet)
-          ∙ ap (λ (m : Met). turn [] (m .list) (m .emit)) (all-wait ra right none-yet number-none few))
-
-      pub right-over : ltb 16 (length right + length ra) ≡ true → turn left (fold appendedTo ra right) (ended none-yet (numberOf ListFull)) ≡ nodeTurn s node place left right la ra findings bytes
-      unfolding nodeTurn fold
-      right-over y = rw none (sym (right-folds ∙ rw y))
-
-      pub right-waited : ltb 16 (length right + length ra) ≡ false → (l : List Occurrence) → l ≡ fold appendedTo ra right → turn left l none-yet ≡ nodeTurn s node place left right la ra findings bytes
-      unfolding nodeTurn fold
-      right-waited y l e = rw (none, e) (sym (right-folds ∙ rw y))
+or-both room loggers place la ra e f g h k = k ∙ ap (λ x. emittedAll room loggers place x ra) h

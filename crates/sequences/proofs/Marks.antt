@@ -7,7 +7,7 @@ use Prim.Native.Nat.{ℕ, zero, suc, _+_, _-_, _≤_, _<_}
 use native.Mathlib.Numerals.{add-one}
 use native.Mathlib.Omega.{arith}
 use lib.ListN.{length, getD, take, drop, set, replicate, length-append, length-replicate, drop-of-length-le}
-use lib.Seq.{append-snoc, drop-cons, drop-nil, length-take-le, take-all, take-nil, take-suc-set}
+use lib.Seq.{drop-cons, drop-nil, length-take-le, take-all, take-nil}
 use Rattle.sequences.specs.Choice.{pick}
 use Rattle.sequences.specs.Loops.{fold}
 use Rattle.sequences.specs.Marks.{marked, unmarked, firstMark, padded}
@@ -68,11 +68,6 @@ module _ {A : Type 0} (l : List A) (m : List Bool) (i : ℕ) (d : A) (in-l : i <
       (λ y. rw (marked-yes l m i d in-l in-m y, y))
       (λ n. rw (marked-no l m i d in-l in-m n, n))
       (either-way (getD m i false))
-
-  pub map-marked : {B : Type 0} (f : A → B) (now : List B) (k : ℕ) (v : B) → getD m i false ≡ true → k < length now → v ≡ f (getD l i d)
-      → take (k + 1) (set now k v) ++ map f (marked (drop (i + 1) l) (drop (i + 1) m)) ≡ take k now ++ map f (marked (drop i l) (drop i m))
-  map-marked f now k v y h e =
-      rw (add-one k, take-suc-set now k v h, marked-yes l m i d in-l in-m y, e) (append-snoc (take k now) (f (getD l i d)) (map f (marked (drop (i + 1) l) (drop (i + 1) m))))
 
 -- ---- marks that a test gives
 module _ {A : Type 0} (p : A → Bool) where

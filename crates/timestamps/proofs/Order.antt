@@ -54,7 +54,7 @@ module _ (ratio : ℕ) (s t : Timestamp) where
 pub before-irrefl : (ratio : ℕ) (s : Timestamp) → before ratio s s ≡ false
 before-irrefl ratio s = before-one ratio s s refl ∙ le-ltb (s .tick .0) (s .tick .0) (omega arith)
 
-quotient-le : (ratio a b : ℕ) → a ≤ b → a / ratio ≤ b / ratio
+pub quotient-le : (ratio a b : ℕ) → a ≤ b → a / ratio ≤ b / ratio
 quotient-le ratio a b h = elim (decLt 0 ratio) [
   | yes p ↦ le-div-iff-mul-le p .1 (let q : a / ratio * ratio ≤ a = div-mul-le-self a ratio in omega arith)
   | no p ↦ (let z : ratio ≡ 0 = omega arith in rw (z, div-zero a, div-zero b) (omega arith))

@@ -1,32 +1,15 @@
--- Appends to a list of 16 places with its length beside it.
-use mathlib.Core.Path.{_≡_, sym}
+-- Appends to a row of 16 places with a count beside it.
+use mathlib.Core.Path.{_≡_, sym, _∙_}
 use mathlib.Core.Bool.{true, false}
 use mathlib.Core.List.{List, [], _∷_, _++_}
 use Prim.Native.Nat.{ℕ, _+_, _≤_, _<_}
 use native.Mathlib.Omega.{arith}
 use borrow.Author.Tests.{le-leb, lt-leb}
-use lib.Dec.{leb}
-use lib.ListN.{length, set, take}
-use Rattle.sequences.proofs.Arrays.{append-room, count-within, count-full}
+use lib.ListN.{length, set}
 use Rattle.occurrences.specs.declared.Occurrence.{Occurrence}
+use Rattle.occurrences.specs.Packed.{held, occurrenceOf}
+use Rattle.occurrences.proofs.Packed.{held-more, length-held}
 use Rattle.waiting_lists.specs.Waiting.{appendedTo, isFull}
-
--- ---- what the code leaves: n are held in the places
-module _ (items : List Occurrence) (n : ℕ) (o : Occurrence) (full : length items ≡ 16) where
-  pub append-has-room : n < 16 → (false ≡ isFull (take n items)) × (take (n + 1) (set items n o) ≡ appendedTo (take n items) o)
-  unfolding isFull appendedTo
-  append-has-room h =
-      let k : length (take n items) ≡ n = sym (count-within 16 items n full (omega arith)) in
-      let r : take (n + 1) (set items n o) ≡ take n items ++ (o ∷ []) = append-room 16 items n full o h in
-      let f : leb 16 (length (take n items)) ≡ false = rw k (lt-leb 16 n h) in
-      (sym f, rw (f, r))
-
-  pub append-is-full : 16 ≤ n → (true ≡ isFull (take n items)) × (take n items ≡ appendedTo (take n items) o)
-  unfolding isFull appendedTo
-  append-is-full h =
-      let k : length (take n items) ≡ 16 = sym (count-full 16 items n full h) in
-      let f : leb 16 (length (take n items)) ≡ true = rw k in
-      (sym f, rw f)
 
 -- ---- what an append does to a list of any length
 module _ (l : List Occurrence) (o : Occurrence) where
@@ -39,3 +22,17 @@ module _ (l : List Occurrence) (o : Occurrence) where
   pub appended-full : 16 ≤ length l → (isFull l ≡ true) × (appendedTo l o ≡ l)
   unfolding isFull appendedTo
   appended-full h = (le-leb 16 (length l) h, rw (le-leb 16 (length l) h))
+
+-- ---- what the code leaves: n are held in the row
+module _ (row : List (List ℕ)) (n : ℕ) (o : List ℕ) (whole : length row ≡ 16) where
+  pub append-has-room : n < 16 → (isFull (held row n) ≡ false) × (held (set row n o) (n + 1) ≡ appendedTo (held row n) (occurrenceOf o))
+  append-has-room h =
+      let few : length (held row n) < 16 = omega (arith, length-held row n) in
+      let a = appended-room (held row n) (occurrenceOf o) few in
+      (a .0, held-more row n o (omega arith) ∙ sym (a .1))
+
+  pub append-is-full : 16 ≤ n → (isFull (held row n) ≡ true) × (held row n ≡ appendedTo (held row n) (occurrenceOf o))
+  append-is-full h =
+      let many : 16 ≤ length (held row n) = omega (arith, length-held row n) in
+      let a = appended-full (held row n) (occurrenceOf o) many in
+      (a .0, sym (a .1))

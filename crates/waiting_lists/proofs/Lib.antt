@@ -1,3 +1,4 @@
 pub mod Appends
+pub mod Counts
 pub mod Places
 pub mod Removals

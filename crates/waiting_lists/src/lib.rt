@@ -1,49 +1,37 @@
-// Waiting lists: at most 16 occurrences, in waiting order.
-use occurrences::Occurrence;
-ghost use mathlib.Core.List.{[]};
+// Waiting lists: at most 16 occurrences, in waiting order. They stand in a row of 16 packed occurrences, which is lent beside the list.
 ghost use mathlib.Core.Path.{_≡_};
 ghost use Prim.Native.Nat.{min, _≤_};
 ghost use lib.ListN.{length};
+ghost use Rattle.sequences.specs.Choice.{pick};
 ghost use Rattle.sequences.specs.Marks.{firstMark, unmarked};
-ghost use Rattle.waiting_lists.specs.Waiting.{appendedTo, held, isFull};
+ghost use Rattle.occurrences.specs.Packed.{held, occurrenceOf};
+ghost use Rattle.waiting_lists.specs.Steps.{fewer, oneMore};
+ghost use Rattle.waiting_lists.specs.Waiting.{appendedTo};
 
-// Document 01's waiting list.
+// Document 01's waiting list: how many of its row wait, from the front.
 pub struct WaitingList {
-    pub items: [Occurrence; 16],
     pub len: usize,
 }
 
-// What an append leaves; full where the list holds 16 already.
+// What an append leaves, and the place in the row that it takes; 16 where the list is full.
 pub struct AfterAppend {
-    pub full: bool,
+    pub place: usize,
     pub list: WaitingList,
 }
 
-// A list in which nothing waits.
-pub fn none() -> WaitingList
-    ensures { λ r. ⌜ held r ≡ [] ⌝ }
+// How many of a row of 16 wait, where n are said to.
+pub fn count(n: usize) -> usize
+    ensures { λ r. ⌜ (r ≡ min n 16) × (r ≤ 16) ⌝ }
 {
-    let o = Occurrence::none();
-    WaitingList {
-        items: [o; 16],
-        len: 0,
-    }
-}
-
-// How many wait.
-pub fn count(list: WaitingList) -> usize
-    ensures { λ r. ⌜ (r ≡ length (held list)) × (r ≤ 16) ⌝ }
-{
-    let n = list.len;
     if 16 < n { 16 } else { n }
 }
 
-// Whether 16 wait, so that an append finds no room.
-pub fn is_full(list: WaitingList) -> bool
-    ensures { λ r. ⌜ r ≡ isFull (held list) ⌝ }
+// How many of a row wait.
+pub fn count_in(list: &[[u64; 10]; 16], n: usize) -> usize
+    ensures { λ r. ⌜ (r ≡ length (held (now (list .entry)) n)) × (r ≤ 16) × (length (now (list .entry)) ≡ 16) ⌝ }
 {
-    let n = count(list);
-    16 <= n
+    let places = list[..].len();
+    if n < places { n } else { places }
 }
 
 // The first place that is marked; 16 where none is.
@@ -60,25 +48,99 @@ pub fn first_marked(marks: [bool; 16]) -> usize
     i
 }
 
-// One more at the end, unless the list is full.
-pub fn appended(list: WaitingList, o: Occurrence) -> AfterAppend
-    ensures { λ r. ⌜ (r .full ≡ isFull (held list)) × (held (r .list) ≡ appendedTo (held list) o) ⌝ }
+// ---- the list
+
+// One more, unless 16 wait already.
+fn appended(list: WaitingList) -> AfterAppend
+    ensures { λ r. ⌜ r ≡ oneMore list ⌝ }
 {
     let n = list.len;
     if n < 16 {
-        let mut w = list;
-        w.items[n] = o;
-        w.len = n + 1;
+        let more = WaitingList { len: n + 1 };
         AfterAppend {
-            full: false,
-            list: w,
+            place: n,
+            list: more,
         }
     } else {
         AfterAppend {
-            full: true,
+            place: 16,
             list: list,
         }
     }
+}
+
+fn one_unless(gone: bool) -> usize
+    ensures { λ r. ⌜ (r ≡ pick gone 0 1) × (r ≤ 1) ⌝ }
+{
+    if gone { 0 } else { 1 }
+}
+
+// Those that are marked leave.
+fn kept(list: WaitingList, gone: [bool; 16]) -> WaitingList
+    ensures { λ r. ⌜ r ≡ fewer list gone ⌝ }
+{
+    let n = count(list.len);
+    let mut k: usize = 0;
+    let mut i: usize = 0;
+    while i < n {
+        k = k + one_unless(gone[i]);
+        i = i + 1;
+    }
+    WaitingList { len: k }
+}
+
+// An append to a list that is lent: the place it takes.
+pub fn append(list: &mut WaitingList) -> usize
+    ensures { λ r. ⌜ (r ≡ oneMore (now (list .entry)) .place) × (now (list .exit) ≡ oneMore (now (list .entry)) .list) ⌝ }
+{
+    let a = appended(*list);
+    *list = a.list;
+    a.place
+}
+
+// A removal of those marked from a list that is lent.
+pub fn remove(list: &mut WaitingList, gone: [bool; 16])
+    ensures { λ _. ⌜ now (list .exit) ≡ fewer (now (list .entry)) gone ⌝ }
+{
+    *list = kept(*list, gone);
+}
+
+// An append to a list by value, which is lent.
+fn with_one_more(list: WaitingList) -> AfterAppend
+    ensures { λ r. ⌜ r ≡ oneMore list ⌝ }
+{
+    let mut m = list;
+    let place = append(&mut m);
+    AfterAppend {
+        place: place,
+        list: m,
+    }
+}
+
+// A removal from a list by value, which is lent.
+fn without(list: WaitingList, gone: [bool; 16]) -> WaitingList
+    ensures { λ r. ⌜ r ≡ fewer list gone ⌝ }
+{
+    let mut m = list;
+    remove(&mut m, gone);
+    m
+}
+
+// ---- the list and its row
+
+// One more at the end, unless the list is full: how many wait then.
+pub fn append_to(row: &mut [[u64; 10]; 16], waiting: usize, o: &[u64; 10]) -> usize
+    ensures { λ r. ⌜ held (now (row .exit)) r ≡ appendedTo (held (now (row .entry)) waiting) (occurrenceOf (now (o .entry))) ⌝ }
+{
+    let list = WaitingList { len: waiting };
+    let a = with_one_more(list);
+    let after = a.list;
+    let place = a.place;
+    if place < row[..].len() {
+        row[place] = *o;
+        return after.len;
+    }
+    after.len
 }
 
 // The earlier of two places.
@@ -88,59 +150,35 @@ fn earlier(a: usize, b: usize) -> usize
     if a < b { a } else { b }
 }
 
-// Those that are not marked close up in order.
-pub fn kept(list: WaitingList, gone: [bool; 16]) -> WaitingList
-    ensures { λ r. ⌜ held r ≡ unmarked (held list) gone ⌝ }
+// Those of a row that are not marked close up in order.
+fn close_up(row: &mut [[u64; 10]; 16], waiting: usize, gone: [bool; 16]) -> usize
+    ensures { λ r. ⌜ held (now (row .exit)) r ≡ unmarked (held (now (row .entry)) waiting) gone ⌝ }
 {
     let first = first_marked(gone);
-    let n = count(list);
+    let n = count_in(row, waiting);
     let start = earlier(first, n);
-    let mut w = list;
     let mut k = start;
     let mut i = start;
     while i < n {
         let next = i + 1;
         if !gone[i] {
-            let o = w.items[i];
-            w.items[k] = o;
+            let o = row[i];
+            row[k] = o;
             k = k + 1;
         }
         i = next;
     }
-    w.len = k;
-    w
+    k
 }
 
-// An append to a list that is lent: true where it is full and stays as it is.
-pub fn append(list: &mut WaitingList, o: Occurrence) -> bool
-    ensures { λ r. ⌜ (r ≡ isFull (held (now (list .entry)))) × (held (now (list .exit)) ≡ appendedTo (held (now (list .entry))) o) ⌝ }
+// Those that are not marked close up in order: how many wait then.
+pub fn remove_from(row: &mut [[u64; 10]; 16], waiting: usize, gone: [bool; 16]) -> usize
+    ensures { λ r. ⌜ held (now (row .exit)) r ≡ unmarked (held (now (row .entry)) waiting) gone ⌝ }
 {
-    let a = appended(*list, o);
-    *list = a.list;
-    a.full
-}
-
-// A removal of those marked from a list that is lent.
-pub fn remove(list: &mut WaitingList, gone: [bool; 16])
-    ensures { λ _. ⌜ held (now (list .exit)) ≡ unmarked (held (now (list .entry))) gone ⌝ }
-{
-    *list = kept(*list, gone);
-}
-
-// An append to a list by value, which is lent; a full list stays as it is.
-pub fn append_to(list: WaitingList, o: Occurrence) -> WaitingList
-    ensures { λ r. ⌜ held r ≡ appendedTo (held list) o ⌝ }
-{
-    let mut m = list;
-    append(&mut m, o);
-    m
-}
-
-// A removal from a list by value, which is lent.
-pub fn remove_from(list: WaitingList, gone: [bool; 16]) -> WaitingList
-    ensures { λ r. ⌜ held r ≡ unmarked (held list) gone ⌝ }
-{
-    let mut m = list;
-    remove(&mut m, gone);
-    m
+    // The row as a slice is what tells the proof its length.
+    let places = row[..].len();
+    let list = WaitingList { len: waiting };
+    let rest = without(list, gone);
+    close_up(row, waiting, gone);
+    rest.len
 }

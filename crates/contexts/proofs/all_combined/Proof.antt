@@ -4,36 +4,37 @@ use Prim.Native.Nat.{_-_, _≤_, _<_}
 use native.Mathlib.Omega.{arith}
 use borrow.Author.Needs.{needs}
 use lib.ListN.{length, drop}
-use Rattle.waiting_lists.specs.Waiting.{held}
-use Rattle.sequences.specs.Marks.{marked}
-use Rattle.sequences.proofs.Marks.{marked-end}
 use Rattle.sequences.specs.Loops.{fold}
 use Rattle.sequences.proofs.Loops.{fold-none}
+use Rattle.sequences.specs.Marks.{marked}
+use Rattle.sequences.proofs.Marks.{marked-end}
 use Rattle.occurrences.specs.Combination.{combinedOf}
+use Rattle.occurrences.specs.Packed.{held, occurrenceOf}
 use Rattle.contexts.proofs.Steps.{combined-here}
 use Rattle.contexts.proofs.all_combined.Statement.{statement}
 use Rattle.contexts.proofs.all_combined.Tie as tie
 
 abbrev Inv-loop : tie.InvT-loop
-Inv-loop ratio list taken n all₀ i₀ all i = (i ≤ n) × (fold (combinedOf ratio) (marked (drop i (held list)) (drop i taken)) all ≡ fold (combinedOf ratio) (marked (held list) taken) all₀)
+Inv-loop list waiting o ratio taken n all₀ i₀ all i =
+    (i ≤ n) × (fold (combinedOf ratio) (marked (drop i (held list waiting)) (drop i taken)) (occurrenceOf all) ≡ fold (combinedOf ratio) (marked (held list waiting) taken) (occurrenceOf o))
 
 abbrev μ-loop : tie.MeasureT-loop
-μ-loop ratio list taken n all₀ i₀ all i = n - i
+μ-loop list waiting o ratio taken n all₀ i₀ all i = n - i
 
-count-requires : tie.Need-count-requires Inv-loop μ-loop
-count-requires c κs = search needs
+count-in-requires : tie.Need-count-in-requires Inv-loop μ-loop
+count-in-requires c κs = search needs
 
 loop-holds : tie.Need-loop-holds Inv-loop μ-loop
 loop-holds c = (search needs, refl)
 
-mul-w : tie.Need-mul-w Inv-loop μ-loop
-mul-w c = search needs
-
-element-copy-out-w : tie.Need-element-copy-out-w Inv-loop μ-loop
-element-copy-out-w c = search needs
-
 array-read-combined-if : tie.Need-array-read-combined-if Inv-loop μ-loop
 array-read-combined-if c = search needs
+
+mul-combined-if : tie.Need-mul-combined-if Inv-loop μ-loop
+mul-combined-if c = search needs
+
+index-1-combined-if : tie.Need-index-1-combined-if Inv-loop μ-loop
+index-1-combined-if c = search needs
 
 combined-if-requires : tie.Need-combined-if-requires Inv-loop μ-loop
 combined-if-requires c κs = search needs
@@ -45,10 +46,26 @@ loop-less : tie.Need-loop-less Inv-loop μ-loop
 loop-less c = search needs
 
 loop-again : tie.Need-loop-again Inv-loop μ-loop
-loop-again c = let b = c .before .before .before in let s = b .before .before in let l = s .args .t1 in let i = b .loop .i in let n : b .before .count .result ≡ length (held l) = b .before .count .ensures .0 in let in-l : i < length (held l) = omega arith in (search needs, combined-here l (s .args .t2) i in-l (search needs) (combinedOf (s .args .ratio)) (b .loop .all) _ (c .combined-if .ensures) ∙ b .loop .inv .1)
+loop-again c =
+    let b = c .before .before .before .before in
+    let q = b .before .before in
+    let s = q .before in
+    let r = s .args .list .now in
+    let w = s .args .waiting in
+    let n : q .count-in .result ≡ length (held r w) = q .count-in .ensures .0 in
+    let in-l : b .loop .i < length (held r w) = omega arith in
+    (search needs, combined-here r w (s .args .t3) (b .loop .i) in-l (search needs) (combinedOf (s .args .ratio)) (occurrenceOf (b .loop .all)) _ (c .combined-if .ensures) ∙ b .loop .inv .1)
 
 returns : tie.Need-returns Inv-loop μ-loop
-returns c = let b = c .before in let s = b .before .before in let l = s .args .t1 in let n : b .before .count .result ≡ length (held l) = b .before .count .ensures .0 in sym (ap (λ x. fold (combinedOf (s .args .ratio)) x (b .loop .all)) (marked-end (held l) (s .args .t2) (b .loop .i) (omega arith)) ∙ fold-none (combinedOf (s .args .ratio)) (b .loop .all)) ∙ b .loop .inv .1
+returns c =
+    let b = c .before in
+    let q = b .before .before in
+    let s = q .before in
+    let r = s .args .list .now in
+    let w = s .args .waiting in
+    let n : q .count-in .result ≡ length (held r w) = q .count-in .ensures .0 in
+    let e = occurrenceOf (b .loop .all) in
+    sym (ap (λ x. fold (combinedOf (s .args .ratio)) x e) (marked-end (held r w) (s .args .t3) (b .loop .i) (omega arith)) ∙ fold-none (combinedOf (s .args .ratio)) e) ∙ b .loop .inv .1
 
 pub all-combined-spec : {M : Type 1} → statement M
 all-combined-spec =
@@ -56,11 +73,11 @@ all-combined-spec =
     (tie.spec
     Inv-loop
     μ-loop
-    count-requires
+    count-in-requires
     loop-holds
-    mul-w
-    element-copy-out-w
     array-read-combined-if
+    mul-combined-if
+    index-1-combined-if
     combined-if-requires
     add-i
     loop-less

@@ -5,32 +5,32 @@ use Prim.Native.Nat.{_-_, _≤_, _<_}
 use native.Mathlib.Omega.{arith}
 use borrow.Author.Needs.{needs}
 use lib.ListN.{length, take, length-map}
-use Rattle.waiting_lists.specs.Waiting.{held}
-use Rattle.occurrences.specs.Occurrences.{isBefore}
 use Rattle.sequences.specs.Marks.{padded}
 use Rattle.sequences.proofs.Marks.{padded-start, padded-end}
+use Rattle.occurrences.specs.Occurrences.{isBefore}
+use Rattle.occurrences.specs.Packed.{held, occurrenceOf}
 use Rattle.contexts.specs.Choice.{seqCandidates}
 use Rattle.contexts.proofs.Steps.{tested-turn}
 use Rattle.contexts.proofs.before_arrival.Statement.{statement}
 use Rattle.contexts.proofs.before_arrival.Tie as tie
 
 abbrev Inv-loop : tie.InvT-loop
-Inv-loop o ratio list n marks₀ i₀ marks i = (i ≤ n) × (marks ≡ padded 16 (take i (map (λ w. isBefore ratio w o) (held list))))
+Inv-loop list waiting o ratio n marks₀ i₀ marks i = (i ≤ n) × (marks ≡ padded 16 (take i (map (λ w. isBefore ratio w (occurrenceOf o)) (held list waiting))))
 
 abbrev μ-loop : tie.MeasureT-loop
-μ-loop o ratio list n marks₀ i₀ marks i = n - i
+μ-loop list waiting o ratio n marks₀ i₀ marks i = n - i
 
-count-requires : tie.Need-count-requires Inv-loop μ-loop
-count-requires c κs = search needs
+count-in-requires : tie.Need-count-in-requires Inv-loop μ-loop
+count-in-requires c κs = search needs
 
 loop-holds : tie.Need-loop-holds Inv-loop μ-loop
 loop-holds c = (search needs, padded-start 16)
 
-mul-w : tie.Need-mul-w Inv-loop μ-loop
-mul-w c = search needs
+mul-before : tie.Need-mul-before Inv-loop μ-loop
+mul-before c = search needs
 
-element-copy-out-w : tie.Need-element-copy-out-w Inv-loop μ-loop
-element-copy-out-w c = search needs
+index-1-before : tie.Need-index-1-before Inv-loop μ-loop
+index-1-before c = search needs
 
 before-requires : tie.Need-before-requires Inv-loop μ-loop
 before-requires c κs = search needs
@@ -45,11 +45,27 @@ loop-less : tie.Need-loop-less Inv-loop μ-loop
 loop-less c = search needs
 
 loop-again : tie.Need-loop-again Inv-loop μ-loop
-loop-again c = let b = c .before .before .before in let s = b .before .before in let l = s .args .t1 in let i = b .loop .i in let n : b .before .count .result ≡ length (held l) = b .before .count .ensures .0 in let in-l : i < length (held l) = omega arith in (search needs, tested-turn l (b .loop .marks) i in-l (search needs) (λ w. isBefore (s .args .ratio) w (s .args .o)) _ (b .loop .inv .1) (c .before2 .ensures))
+loop-again c =
+    let b = c .before .before .before in
+    let q = b .before in
+    let s = q .before in
+    let r = s .args .list .now in
+    let w = s .args .waiting in
+    let n : q .count-in .result ≡ length (held r w) = q .count-in .ensures .0 in
+    let in-l : b .loop .i < length (held r w) = omega arith in
+    (search needs, tested-turn r w (b .loop .marks) (b .loop .i) in-l (search needs) (λ v. isBefore (s .args .ratio) v (occurrenceOf (s .args .o .now))) _ (b .loop .inv .1) (c .before2 .ensures))
 
 returns : tie.Need-returns Inv-loop μ-loop
 unfolding seqCandidates
-returns c = let b = c .before in let s = b .before .before in let l = s .args .t1 in let n : b .before .count .result ≡ length (held l) = b .before .count .ensures .0 in padded-end 16 (map (λ w. isBefore (s .args .ratio) w (s .args .o)) (held l)) (b .loop .marks) (b .loop .i) (omega (arith, length-map (held l) (λ w. isBefore (s .args .ratio) w (s .args .o)))) (b .loop .inv .1)
+returns c =
+    let b = c .before in
+    let q = b .before in
+    let s = q .before in
+    let r = s .args .list .now in
+    let w = s .args .waiting in
+    let n : q .count-in .result ≡ length (held r w) = q .count-in .ensures .0 in
+    padded-end 16 (map (λ v. isBefore (s .args .ratio) v (occurrenceOf (s .args .o .now))) (held r w)) (b .loop .marks) (b .loop .i)
+    (omega (arith, length-map (held r w) (λ v. isBefore (s .args .ratio) v (occurrenceOf (s .args .o .now))))) (b .loop .inv .1)
 
 pub before-arrival-spec : {M : Type 1} → statement M
 before-arrival-spec =
@@ -57,10 +73,10 @@ before-arrival-spec =
     (tie.spec
     Inv-loop
     μ-loop
-    count-requires
+    count-in-requires
     loop-holds
-    mul-w
-    element-copy-out-w
+    mul-before
+    index-1-before
     before-requires
     array-write-marks
     add-i

@@ -1,6 +1,6 @@
 -- The row, what it takes, and what it removes.
-use Rattle.contexts.proofs.Steps.{chosen-is}
 use borrow.Author.Needs.{needs}
+use Rattle.contexts.proofs.Steps.{chosen-is}
 use Rattle.contexts.proofs.choose.Statement.{statement}
 use Rattle.contexts.proofs.choose.Tie as tie
 

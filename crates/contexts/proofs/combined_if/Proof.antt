@@ -1,5 +1,4 @@
 -- By the mark.
-
 use borrow.Author.Needs.{needs}
 use Rattle.contexts.proofs.combined_if.Statement.{statement}
 use Rattle.contexts.proofs.combined_if.Tie as tie
@@ -11,7 +10,7 @@ returns : tie.Need-returns
 returns c = rw (c .before .if1 .taken) (c .combined .ensures)
 
 returns-2 : tie.Need-returns-2
-returns-2 c = rw (c .if1 .left)
+returns-2 c = rw (c .before .if1 .left)
 
 pub combined-if-spec : {M : Type 1} → statement M
 combined-if-spec = tie.close (tie.spec combined-requires returns returns-2)

@@ -5,13 +5,10 @@ use Rattle.contexts_main.proofs.fill.Statement.{statement}
 use Rattle.contexts_main.proofs.fill.Tie as tie
 
 abbrev Inv-loop : tie.InvT-loop
-Inv-loop list₀ i₀ t5 t6 list i = i ≤ 18
+Inv-loop list₀ n₀ i₀ t8 t9 list n i = i ≤ 18
 
 abbrev μ-loop : tie.MeasureT-loop
-μ-loop list₀ i₀ t5 t6 list i = 18 - i
-
-none-requires : tie.Need-none-requires Inv-loop μ-loop
-none-requires c κs = search needs
+μ-loop list₀ n₀ i₀ t8 t9 list n i = 18 - i
 
 loop-holds : tie.Need-loop-holds Inv-loop μ-loop
 loop-holds c = search needs
@@ -64,7 +61,6 @@ fill-spec =
     (tie.spec
     Inv-loop
     μ-loop
-    none-requires
     loop-holds
     one-more-requires
     add-i

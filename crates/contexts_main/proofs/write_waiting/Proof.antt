@@ -5,10 +5,10 @@ use Rattle.contexts_main.proofs.write_waiting.Statement.{statement}
 use Rattle.contexts_main.proofs.write_waiting.Tie as tie
 
 abbrev Inv-loop : tie.InvT-loop
-Inv-loop list n i₀ i = (i ≤ n) × (n ≤ 16)
+Inv-loop list waiting n i₀ i = (i ≤ n) × (n ≤ 16)
 
 abbrev μ-loop : tie.MeasureT-loop
-μ-loop list n i₀ i = n - i
+μ-loop list waiting n i₀ i = n - i
 
 count-requires : tie.Need-count-requires Inv-loop μ-loop
 count-requires c κs = search needs
@@ -16,11 +16,11 @@ count-requires c κs = search needs
 loop-holds : tie.Need-loop-holds Inv-loop μ-loop
 loop-holds c = search needs
 
-mul-o : tie.Need-mul-o Inv-loop μ-loop
-mul-o c = search needs
+mul-write-events : tie.Need-mul-write-events Inv-loop μ-loop
+mul-write-events c = search needs
 
-element-copy-out-o : tie.Need-element-copy-out-o Inv-loop μ-loop
-element-copy-out-o c = search needs
+index-1-write-events : tie.Need-index-1-write-events Inv-loop μ-loop
+index-1-write-events c = search needs
 
 write-events-requires : tie.Need-write-events-requires Inv-loop μ-loop
 write-events-requires c κs = search needs
@@ -45,8 +45,8 @@ write-waiting-spec =
     μ-loop
     count-requires
     loop-holds
-    mul-o
-    element-copy-out-o
+    mul-write-events
+    index-1-write-events
     write-events-requires
     add-i
     loop-less

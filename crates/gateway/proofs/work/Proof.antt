@@ -4,7 +4,7 @@ use borrow.Author.Tests.{not-true, not-false}
 use native.Mathlib.Omega.{arith}
 use lib.ListN.{length}
 use Rattle.gateway.proofs.Theorems.{told}
-use Rattle.gateway.proofs.Working.{both-accepted, passage-refused, plan-refused, run-answers}
+use Rattle.gateway.proofs.Working.{both-accepted, passage-refused, plan-refused, run-answers, ticks-fit}
 use Rattle.gateway.specs.Working.{turnedBack}
 use borrow.Author.Needs.{needs}
 use Rattle.gateway.proofs.work.Statement.{statement}
@@ -57,7 +57,13 @@ returns-2 c =
     (c .turned-back2 .ensures _)
 
 run-events-requires : tie.Need-run-events-requires
-run-events-requires c κs = search needs
+run-events-requires c κs =
+    let q = c .before .before .before in
+    let p = q .before .before .before .before in
+    let start = p .before .before .before .before in
+    ticks-fit (start .args .plan .now) (start .args .passage .now) 0 (p .read-plan .result) (p .read-plan .ensures) (sym (q .before .before .before .is-none .ensures) ∙ not-false _ (q .before .before .if1 .left))
+    (q .check-passage .result) (q .check-passage .ensures) (λ i. omega (arith, p .before .before .shared-slice-known2 .given i))
+    (sym (c .before .before .is-none2 .ensures) ∙ not-false _ (c .before .if2 .left))
 
 number-of-requires : tie.Need-number-of-requires
 number-of-requires c κs = search needs

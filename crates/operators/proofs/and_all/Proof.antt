@@ -1,43 +1,41 @@
 -- What is left of the list, from the state so far, is the whole.
-use mathlib.Core.Path.{_≡_, refl, sym, ap, _∙_}
-use Prim.Native.Nat.{_≤_, _-_, _<_}
+use mathlib.Core.Path.{_≡_, refl, sym, _∙_}
+use Prim.Native.Nat.{_≤_, _-_}
+use denote.Ref.{now}
 use native.Mathlib.Omega.{arith}
 use borrow.Author.Needs.{needs}
-use lib.ListN.{length, drop, length-map}
+use lib.ListN.{drop, length}
 use Rattle.sequences.specs.Loops.{fold}
-use Rattle.sequences.proofs.Arrays.{held-at}
-use Rattle.sequences.proofs.Loops.{fold-turn, fold-end}
 use Rattle.detections.specs.Writing.{Beyond}
 use Rattle.detections.proofs.Writing.{beyond-none, beyond-then}
-use Rattle.occurrences.specs.Occurrences.{blank}
-use Rattle.waiting_lists.specs.Waiting.{appendedTo, held}
-use Rattle.emissions.specs.Emissions.{emitOf, heldMade}
-use Rattle.operators.specs.Steps.{meeting, metStep, sides, sidesStep}
+use Rattle.occurrences.specs.Packed.{held}
+use Rattle.emissions.specs.Emissions.{emitOf}
+use Rattle.operators.specs.Steps.{sides, sidesStep}
 use Rattle.operators.specs.Turns.{settingOf}
-use Rattle.operators.proofs.Turns.{met-step, sides-step}
+use Rattle.operators.proofs.Turns.{arrival-end, arrival-turn, sides-step}
 use Rattle.operators.proofs.and_all.Statement.{statement}
 use Rattle.operators.proofs.and_all.Tie as tie
 
 abbrev Inv-loop : tie.InvT-loop
-Inv-loop node place ratio loggers out₀ arrivals n l₀ r₀ f₀ i₀ out l r f i = (i ≤ n) × (length out ≡ length out₀) × Beyond out₀ out (f₀ .at) (f .findings) (f .at) × (fold (sidesStep (settingOf (length out₀) ratio loggers) node place) (drop i (heldMade arrivals)) (sides (held l) (held r) (emitOf f out)) ≡ fold (sidesStep (settingOf (length out₀) ratio loggers) node place) (heldMade arrivals) (sides (held l₀) (held r₀) (emitOf f₀ out₀)))
+Inv-loop own₀ here other₀ there made₀ arrivals count node place ratio loggers out₀ n l₀ r₀ f₀ i₀ own other made out l r f i = (i ≤ n) × (length out ≡ length out₀) × Beyond out₀ out (f₀ .at) (f .findings) (f .at) × (fold (sidesStep (settingOf (length out₀) ratio loggers) node place) (drop i (held arrivals count)) (sides (held own l) (held other r) (emitOf f made out)) ≡ fold (sidesStep (settingOf (length out₀) ratio loggers) node place) (held arrivals count) (sides (held own₀ l₀) (held other₀ r₀) (emitOf f₀ made₀ out₀)))
 
 abbrev μ-loop : tie.MeasureT-loop
-μ-loop node place ratio loggers out₀ arrivals n l₀ r₀ f₀ i₀ out l r f i = n - i
+μ-loop own₀ here other₀ there made₀ arrivals count node place ratio loggers out₀ n l₀ r₀ f₀ i₀ own other made out l r f i = n - i
 
-made-count-requires : tie.Need-made-count-requires Inv-loop μ-loop
-made-count-requires c κs = search needs
+up-to-requires : tie.Need-up-to-requires Inv-loop μ-loop
+up-to-requires c κs = search needs
 
 loop-holds : tie.Need-loop-holds Inv-loop μ-loop
-loop-holds c = (search needs, refl, beyond-none (c .before .before .pre .0) (c .before .before .pre .1), refl)
+loop-holds c = (search needs, refl, beyond-none (c .before .before .before .pre .0) (c .before .before .before .pre .1), refl)
 
-mul-o : tie.Need-mul-o Inv-loop μ-loop
-mul-o c = search needs
+mul-and-arrival : tie.Need-mul-and-arrival Inv-loop μ-loop
+mul-and-arrival c = search needs
 
-element-copy-out-o : tie.Need-element-copy-out-o Inv-loop μ-loop
-element-copy-out-o c = search needs
+index-1-and-arrival : tie.Need-index-1-and-arrival Inv-loop μ-loop
+index-1-and-arrival c = search needs
 
 and-arrival-requires : tie.Need-and-arrival-requires Inv-loop μ-loop
-and-arrival-requires c κs = (c .before .before .before .loop .inv .2 .within, c .before .before .before .loop .inv .2 .few)
+and-arrival-requires c κs = let a = c .before .before .before .before .before .before in (a .loop .inv .2 .within, a .loop .inv .2 .few)
 
 add-i : tie.Need-add-i Inv-loop μ-loop
 add-i c = search needs
@@ -47,15 +45,15 @@ loop-less c = search needs
 
 loop-again : tie.Need-loop-again Inv-loop μ-loop
 loop-again c =
-    let a = c .before .before .before .before .before .before .before .before .before in
-    let start = a .before .before .before in
-    let call = c .before .before .before .before .before .and-arrival in
-    let in-list : a .loop .i < length (heldMade (start .args .t4)) = omega (arith, c .before .before .before .before .before .before .before .before .loop-test .taken, a .before .made-count .ensures .0) in
+    let a = c .before .before .before .before .before .before .before .before .before .before in
+    let within = c .before .before .before .before .before .before .before .before .before .loop-test .taken in
+    let start = a .before .before .before .before in
+    let call = c .before .before .before .and-arrival in
     let same = rw (a .loop .inv .1) at (call .ensures .0) in (
-      search needs,
-      call .kept .1 .1 .1 .1 .1 .1 .1 .1 .0 ∙ a .loop .inv .1,
+      omega (arith, within),
+      call .kept .1 .1 .1 .1 .1 .1 .1 .1 .1 .1 .1 .0 ∙ a .loop .inv .1,
       beyond-then (a .loop .inv .2) (call .ensures .1),
-      fold-turn _ (heldMade (start .args .t4)) (a .loop .i) _ _ blank in-list (sides-step _ _ _ _ _ _ same ∙ ap (sidesStep _ _ _ _) (held-at (start .args .t4 .items) (start .args .t4 .len) (a .loop .i) blank in-list)) ∙ a .loop .inv .3,
+      arrival-turn _ (now (start .args .arrivals)) (start .args .count) _ (a .loop .i) (a .before .up-to .ensures) _ _ within (sides-step _ _ _ _ _ _ same) ∙ a .loop .inv .3,
     )
 
 same-length : tie.Need-same-length Inv-loop μ-loop
@@ -64,9 +62,8 @@ same-length c = c .before .loop .inv .1
 returns : tie.Need-returns Inv-loop μ-loop
 returns c =
     let a = c .before in
-    let start = a .before .before .before in
-    let past : length (heldMade (start .args .t4)) ≤ a .loop .i = omega (arith, c .loop-test .left, a .before .made-count .ensures .0) in
-    (sym (fold-end _ (heldMade (start .args .t4)) (a .loop .i) _ past) ∙ a .loop .inv .3, a .loop .inv .2)
+    let start = a .before .before .before .before in
+    (sym (arrival-end _ (now (start .args .arrivals)) (start .args .count) _ (a .loop .i) (a .before .up-to .ensures) _ (c .loop-test .left)) ∙ a .loop .inv .3, a .loop .inv .2)
 
 pub and-all-spec : {M : Type 1} → statement M
 and-all-spec =
@@ -74,10 +71,10 @@ and-all-spec =
     (tie.spec
     Inv-loop
     μ-loop
-    made-count-requires
+    up-to-requires
     loop-holds
-    mul-o
-    element-copy-out-o
+    mul-and-arrival
+    index-1-and-arrival
     and-arrival-requires
     add-i
     loop-less

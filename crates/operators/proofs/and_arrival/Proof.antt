@@ -1,9 +1,17 @@
 -- It waits, or it is consumed.
-use mathlib.Core.Path.{_≡_, refl, sym, ap, _∙_}
-use Rattle.operators.proofs.Arrivals.{and-waits, and-gone}
+use mathlib.Core.Path.{_≡_}
+use Prim.Native.Nat.{min}
+use native.Mathlib.Omega.{arith}
 use borrow.Author.Needs.{needs}
+use denote.Ref.{now}
+use lib.ListN.{length}
+use Rattle.occurrences.specs.Packed.{held}
+use Rattle.operators.proofs.Arrivals.{and-waits, and-gone}
 use Rattle.operators.proofs.and_arrival.Statement.{statement}
 use Rattle.operators.proofs.and_arrival.Tie as tie
+
+count-in-requires : tie.Need-count-in-requires
+count-in-requires c κs = search needs
 
 all-waiting-requires : tie.Need-all-waiting-requires
 all-waiting-requires c κs = search needs
@@ -21,18 +29,38 @@ same-length : tie.Need-same-length
 same-length c = search needs
 
 returns : tie.Need-returns
-returns c = (and-waits _ _ _ _ _ _ _ _ _ _ (c .before .before .before .before .before .before .before .before .before .before .before .all-waiting .ensures) (c .before .before .before .before .before .before .before .before .before .meet .ensures .0) (c .before .before .before .before .does-join .ensures) _ (c .before .before .before .if1 .taken) (c .before .before .wait .ensures .0 _), rw (c .before .before .wait .ensures .1, c .before .before .wait .ensures .2) (c .before .before .before .before .before .before .before .before .before .meet .ensures .1))
+returns c =
+    let waits = c .before in
+    let yes = waits .before .before in
+    let join = yes .before in
+    let meet = join .before .before .before .before in
+    let marks = meet .before .before .before .before in
+    let count = marks .before in
+    let start = count .before .before .before in
+    let other = held (now (start .args .other)) (start .args .there) in
+    let many : length other ≡ min (count .count-in .result) 16 = omega (arith, count .count-in .ensures .0, count .count-in .ensures .1) in
+    let w = waits .wait .ensures in
+    (and-waits _ _ _ _ _ _ _ _ _ _ (marks .all-waiting .ensures other many) (meet .meet .ensures .0) (join .does-join .ensures other many) _ (yes .if1 .taken) (w .0 (meet .meet .last .1 .1 .1 .1 .0) _), rw (w .1, w .2) (meet .meet .ensures .1))
 
 same-length-2 : tie.Need-same-length-2
 same-length-2 c = search needs
 
 returns-2 : tie.Need-returns-2
-returns-2 c = (and-gone _ _ _ _ _ _ _ _ _ _ (c .before .before .before .before .before .before .before .before .all-waiting .ensures) (c .before .before .before .before .before .before .meet .ensures .0) (c .before .does-join .ensures) (c .if1 .left), c .before .before .before .before .before .before .meet .ensures .1)
+returns-2 c =
+    let join = c .before in
+    let meet = join .before .before .before .before in
+    let marks = meet .before .before .before .before in
+    let count = marks .before in
+    let start = count .before .before .before in
+    let other = held (now (start .args .other)) (start .args .there) in
+    let many : length other ≡ min (count .count-in .result) 16 = omega (arith, count .count-in .ensures .0, count .count-in .ensures .1) in
+    (and-gone _ _ _ _ _ _ _ _ _ _ (marks .all-waiting .ensures other many) (meet .meet .ensures .0) (join .does-join .ensures other many) (c .if1 .left), meet .meet .ensures .1)
 
 pub and-arrival-spec : {M : Type 1} → statement M
 and-arrival-spec =
     tie.close
     (tie.spec
+    count-in-requires
     all-waiting-requires
     meet-requires
     does-join-requires

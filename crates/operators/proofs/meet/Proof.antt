@@ -1,14 +1,16 @@
--- With a limit, or on to the removal.
-use mathlib.Core.Path.{_≡_, refl, sym, ap, _∙_}
-use Rattle.operators.proofs.Arrivals.{met-none, met-stopped, met-goes}
+-- No candidate, a limit, or on to the removal.
+use mathlib.Core.Path.{sym, _∙_}
 use Prim.Native.Nat.{_≤_}
 use native.Mathlib.Omega.{arith}
-use lib.ListN.{length, length-map, length-take}
+use borrow.Author.Needs.{needs}
+use denote.Ref.{now}
+use lib.ListN.{length}
 use Rattle.sequences.specs.Marks.{firstMark}
 use Rattle.sequences.proofs.Marks.{marked-none}
-use Rattle.waiting_lists.specs.Waiting.{held}
 use Rattle.detections.proofs.Writing.{beyond-none}
-use borrow.Author.Needs.{needs}
+use Rattle.occurrences.specs.Packed.{held}
+use Rattle.occurrences.proofs.Packed.{length-held}
+use Rattle.operators.proofs.Arrivals.{met-none, met-stopped, met-goes}
 use Rattle.operators.proofs.meet.Statement.{statement}
 use Rattle.operators.proofs.meet.Tie as tie
 
@@ -17,19 +19,17 @@ first-marked-requires c κs = search needs
 
 returns : tie.Need-returns
 returns c =
-    let start = c .before .before .before in
-    let full : length (start .args .list .items) ≡ 16 = simp length-map at (start .good .0 .1 .1 .0 .1 .0 .1) in
-    let few : length (held (start .args .list)) ≤ firstMark (start .args .candidates) = omega (arith, length-take (start .args .list .len) (start .args .list .items), c .before .first-marked .ensures, c .if1 .taken) in
+    let first = c .before .before .before in
+    let start = first .before .before in
+    let list = now (start .args .list) in
+    let few : length (held list (start .args .waiting)) ≤ firstMark (start .args .candidates) = omega (arith, length-held list (start .args .waiting), first .first-marked .ensures, c .if1 .taken) in
     (met-none _ _ _ _ _ _ _ (marked-none _ _ few), beyond-none (start .pre .0) (start .pre .1))
 
 choose-requires : tie.Need-choose-requires
 choose-requires c κs = search needs
 
-make-requires : tie.Need-make-requires
-make-requires c κs = search needs
-
-emit-all-requires : tie.Need-emit-all-requires
-emit-all-requires c κs = search needs
+emit-made-requires : tie.Need-emit-made-requires
+emit-made-requires c κs = search needs
 
 is-reached-requires : tie.Need-is-reached-requires
 is-reached-requires c κs = search needs
@@ -38,7 +38,11 @@ same-length : tie.Need-same-length
 same-length c = search needs
 
 returns-2 : tie.Need-returns-2
-returns-2 c = (met-stopped _ _ _ _ _ _ _ _ _ _ (c .before .before .before .before .before .before .before .before .before .choose .ensures) (c .before .before .before .before .before .before .make .ensures) (c .before .before .before .before .emit-all .ensures .0) (sym (c .before .is-reached .ensures) ∙ c .if2 .taken), c .before .before .before .before .emit-all .ensures .1)
+returns-2 c =
+    let told = c .before in
+    let call = told .before .before .before in
+    let choice = call .before .before .before .before .before .before in
+    (met-stopped _ _ _ _ _ _ _ _ _ (choice .choose .ensures) (call .emit-made .ensures .0) (sym (told .is-reached .ensures) ∙ c .if2 .taken), call .emit-made .ensures .1)
 
 remove-from-requires : tie.Need-remove-from-requires
 remove-from-requires c κs = search needs
@@ -47,7 +51,12 @@ same-length-2 : tie.Need-same-length-2
 same-length-2 c = search needs
 
 returns-3 : tie.Need-returns-3
-returns-3 c = (met-goes _ _ _ _ _ _ _ _ _ _ (c .before .before .before .before .before .before .before .before .before .before .choose .ensures) (c .before .before .before .before .before .before .before .make .ensures) (c .before .before .before .before .before .emit-all .ensures .0) _ (sym (c .before .before .is-reached .ensures) ∙ c .before .if2 .left) (c .remove-from .ensures), c .before .before .before .before .before .emit-all .ensures .1)
+returns-3 c =
+    let go = c .before .before in
+    let told = go .before in
+    let call = told .before .before .before in
+    let choice = call .before .before .before .before .before .before in
+    (met-goes _ _ _ _ _ _ _ _ _ (choice .choose .ensures) (call .emit-made .ensures .0) _ (sym (told .is-reached .ensures) ∙ go .if2 .left) (c .remove-from .ensures), call .emit-made .ensures .1)
 
 pub meet-spec : {M : Type 1} → statement M
 meet-spec =
@@ -56,8 +65,7 @@ meet-spec =
     first-marked-requires
     returns
     choose-requires
-    make-requires
-    emit-all-requires
+    emit-made-requires
     is-reached-requires
     same-length
     returns-2

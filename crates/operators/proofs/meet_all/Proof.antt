@@ -1,46 +1,50 @@
 -- What is left of the list, from the state so far, is the whole.
-use mathlib.Core.Path.{_≡_, refl, sym, ap, _∙_}
-use Prim.Native.Nat.{_≤_, _-_, _<_}
+use mathlib.Core.Path.{_≡_, refl, sym, _∙_}
+use Prim.Native.Nat.{_≤_, _-_}
+use denote.Ref.{now}
 use native.Mathlib.Omega.{arith}
 use borrow.Author.Needs.{needs}
-use lib.ListN.{length, drop, length-map}
+use lib.ListN.{drop, length}
 use Rattle.sequences.specs.Loops.{fold}
-use Rattle.sequences.proofs.Arrays.{held-at}
-use Rattle.sequences.proofs.Loops.{fold-turn, fold-end}
 use Rattle.detections.specs.Writing.{Beyond}
 use Rattle.detections.proofs.Writing.{beyond-none, beyond-then}
-use Rattle.occurrences.specs.Occurrences.{blank}
-use Rattle.waiting_lists.specs.Waiting.{appendedTo, held}
-use Rattle.emissions.specs.Emissions.{emitOf, heldMade}
-use Rattle.operators.specs.Steps.{meeting, metStep, sides, sidesStep}
+use Rattle.occurrences.specs.Packed.{held}
+use Rattle.emissions.specs.Emissions.{emitOf}
+use Rattle.operators.specs.Steps.{meeting, metStep}
 use Rattle.operators.specs.Turns.{settingOf}
-use Rattle.operators.proofs.Turns.{met-step, sides-step}
+use Rattle.operators.proofs.Turns.{arrival-end, arrival-turn, met-step}
 use Rattle.operators.proofs.meet_all.Statement.{statement}
 use Rattle.operators.proofs.meet_all.Tie as tie
 
 abbrev Inv-loop : tie.InvT-loop
-Inv-loop node place ratio loggers out₀ arrivals n l₀ f₀ i₀ out l f i = (i ≤ n) × (length out ≡ length out₀) × Beyond out₀ out (f₀ .at) (f .findings) (f .at) × (fold (metStep (settingOf (length out₀) ratio loggers) node place) (drop i (heldMade arrivals)) (meeting (held l) (emitOf f out)) ≡ fold (metStep (settingOf (length out₀) ratio loggers) node place) (heldMade arrivals) (meeting (held l₀) (emitOf f₀ out₀)))
+Inv-loop list₀ waiting made₀ arrivals count node place ratio loggers out₀ n l₀ f₀ i₀ list made out l f i = (i ≤ n) × (length out ≡ length out₀) × Beyond out₀ out (f₀ .at) (f .findings) (f .at) × (fold (metStep (settingOf (length out₀) ratio loggers) node place) (drop i (held arrivals count)) (meeting (held list l) (emitOf f made out)) ≡ fold (metStep (settingOf (length out₀) ratio loggers) node place) (held arrivals count) (meeting (held list₀ l₀) (emitOf f₀ made₀ out₀)))
 
 abbrev μ-loop : tie.MeasureT-loop
-μ-loop node place ratio loggers out₀ arrivals n l₀ f₀ i₀ out l f i = n - i
+μ-loop list₀ waiting made₀ arrivals count node place ratio loggers out₀ n l₀ f₀ i₀ list made out l f i = n - i
 
-made-count-requires : tie.Need-made-count-requires Inv-loop μ-loop
-made-count-requires c κs = search needs
+up-to-requires : tie.Need-up-to-requires Inv-loop μ-loop
+up-to-requires c κs = search needs
 
 loop-holds : tie.Need-loop-holds Inv-loop μ-loop
-loop-holds c = (search needs, refl, beyond-none (c .before .before .pre .0) (c .before .before .pre .1), refl)
+loop-holds c = (search needs, refl, beyond-none (c .before .before .before .pre .0) (c .before .before .before .pre .1), refl)
 
-mul-o : tie.Need-mul-o Inv-loop μ-loop
-mul-o c = search needs
+mul-before-arrival : tie.Need-mul-before-arrival Inv-loop μ-loop
+mul-before-arrival c = search needs
 
-element-copy-out-o : tie.Need-element-copy-out-o Inv-loop μ-loop
-element-copy-out-o c = search needs
+index-1-before-arrival : tie.Need-index-1-before-arrival Inv-loop μ-loop
+index-1-before-arrival c = search needs
 
 before-arrival-requires : tie.Need-before-arrival-requires Inv-loop μ-loop
 before-arrival-requires c κs = search needs
 
+mul-meet : tie.Need-mul-meet Inv-loop μ-loop
+mul-meet c = search needs
+
+index-1-meet : tie.Need-index-1-meet Inv-loop μ-loop
+index-1-meet c = search needs
+
 meet-requires : tie.Need-meet-requires Inv-loop μ-loop
-meet-requires c κs = (c .before .before .before .before .loop .inv .2 .within, c .before .before .before .before .loop .inv .2 .few)
+meet-requires c κs = let a = c .before .before .before .before .before .before .before .before in (a .loop .inv .2 .within, a .loop .inv .2 .few)
 
 add-i : tie.Need-add-i Inv-loop μ-loop
 add-i c = search needs
@@ -50,15 +54,15 @@ loop-less c = search needs
 
 loop-again : tie.Need-loop-again Inv-loop μ-loop
 loop-again c =
-    let a = c .before .before .before .before .before .before .before .before .before in
-    let start = a .before .before .before in
-    let call = c .before .before .before .before .meet in
-    let in-list : a .loop .i < length (heldMade (start .args .t3)) = omega (arith, c .before .before .before .before .before .before .before .before .loop-test .taken, a .before .made-count .ensures .0) in
+    let a = c .before .before .before .before .before .before .before .before .before .before .before .before in
+    let within = c .before .before .before .before .before .before .before .before .before .before .before .loop-test .taken in
+    let start = a .before .before .before .before in
+    let call = c .before .before .before .meet in
     let same = rw (a .loop .inv .1) at (call .ensures .0) in (
-      search needs,
-      call .kept .1 .1 .1 .1 .1 .1 .1 .1 .0 ∙ a .loop .inv .1,
+      omega (arith, within),
+      call .kept .1 .1 .1 .1 .1 .1 .1 .1 .1 .1 .0 ∙ a .loop .inv .1,
       beyond-then (a .loop .inv .2) (call .ensures .1),
-      fold-turn _ (heldMade (start .args .t3)) (a .loop .i) _ _ blank in-list (met-step _ _ _ _ _ _ _ (c .before .before .before .before .before .before .before-arrival .ensures) same ∙ ap (metStep _ _ _ _) (held-at (start .args .t3 .items) (start .args .t3 .len) (a .loop .i) blank in-list)) ∙ a .loop .inv .3,
+      arrival-turn _ (now (start .args .arrivals)) (start .args .count) _ (a .loop .i) (a .before .up-to .ensures) _ _ within (met-step _ _ _ _ _ _ _ (c .before .before .before .before .before .before .before .before .before-arrival .ensures) same) ∙ a .loop .inv .3,
     )
 
 same-length : tie.Need-same-length Inv-loop μ-loop
@@ -67,9 +71,8 @@ same-length c = c .before .loop .inv .1
 returns : tie.Need-returns Inv-loop μ-loop
 returns c =
     let a = c .before in
-    let start = a .before .before .before in
-    let past : length (heldMade (start .args .t3)) ≤ a .loop .i = omega (arith, c .loop-test .left, a .before .made-count .ensures .0) in
-    (sym (fold-end _ (heldMade (start .args .t3)) (a .loop .i) _ past) ∙ a .loop .inv .3, a .loop .inv .2)
+    let start = a .before .before .before .before in
+    (sym (arrival-end _ (now (start .args .arrivals)) (start .args .count) _ (a .loop .i) (a .before .up-to .ensures) _ (c .loop-test .left)) ∙ a .loop .inv .3, a .loop .inv .2)
 
 pub meet-all-spec : {M : Type 1} → statement M
 meet-all-spec =
@@ -77,11 +80,13 @@ meet-all-spec =
     (tie.spec
     Inv-loop
     μ-loop
-    made-count-requires
+    up-to-requires
     loop-holds
-    mul-o
-    element-copy-out-o
+    mul-before-arrival
+    index-1-before-arrival
     before-arrival-requires
+    mul-meet
+    index-1-meet
     meet-requires
     add-i
     loop-less

@@ -1,54 +1,49 @@
 -- Too many to wait, or on to those on the right.
 use mathlib.Core.Path.{_≡_, sym, _∙_}
-use native.Mathlib.Omega.{arith}
+use denote.Ref.{now}
 use Rattle.detections.proofs.Writing.{beyond-none}
-use Rattle.operators.proofs.Turns.{number-none, seq-goes, seq-over}
+use Rattle.operators.proofs.Turns.{seq-goes, seq-over}
 use borrow.Author.Needs.{needs}
 use Rattle.operators.proofs.seq_turn.Statement.{statement}
 use Rattle.operators.proofs.seq_turn.Tie as tie
 
-fresh-requires : tie.Need-fresh-requires
-fresh-requires c κs = search needs
+overflows-requires : tie.Need-overflows-requires
+overflows-requires c κs = search needs
 
 wait-all-requires : tie.Need-wait-all-requires
 wait-all-requires c κs = search needs
-
-overflows-requires : tie.Need-overflows-requires
-overflows-requires c κs = search needs
 
 full-requires : tie.Need-full-requires
 full-requires c κs = search needs
 
 returns : tie.Need-returns
 returns c =
-    let start = c .before .before .before .before .before .before in
-    let fresh = c .before .before .before .before .fresh .ensures in
-    let over = c .before .before .overflows .ensures in
+    let start = c .before .before .before .before .before .before .before in
+    let over = c .before .before .before .before .overflows .ensures in
     let full = c .full .ensures in (
-      seq-over _ _ _ _ _ _ _ _ (fresh .0 _) number-none (over .1) _ (c .before .before .before .wait-all .ensures) _ (sym (over .0) ∙ c .before .if1 .taken) (full .0 _),
-      rw (full .1, full .2, fresh .1, fresh .2) (beyond-none (start .pre .0) (start .pre .1)),
+      seq-over _ _ _ _ _ _ _ (start .pre .2) (over .1) _ (c .before .before .wait-all .ensures) _ (sym (over .0) ∙ c .before .if1 .taken) (full .0 (now (start .args .made)) _),
+      rw (full .1, full .2) (beyond-none (start .pre .0) (start .pre .1)),
     )
 
 meet-all-requires : tie.Need-meet-all-requires
-meet-all-requires c κs = let fresh = c .before .before .before .before .fresh .ensures in let start = c .before .before .before .before .before .before in (omega (arith, fresh .1, start .pre .0), omega (arith, fresh .1, fresh .2, start .pre .1))
+meet-all-requires c κs = search needs
 
 same-length : tie.Need-same-length
 same-length c = search needs
 
 returns-2 : tie.Need-returns-2
 returns-2 c =
-    let fresh = c .before .before .before .before .before .before .before .fresh .ensures in
-    let over = c .before .before .before .before .before .overflows .ensures in
-    let call = c .before .before .meet-all in
-    (seq-goes _ _ _ _ _ _ _ _ (fresh .0 _) number-none (over .1) _ (c .before .before .before .before .before .before .wait-all .ensures) _ (sym (over .0) ∙ c .before .before .before .before .if1 .left) (call .ensures .0), rw (fresh .1) at (call .ensures .1))
+    let start = c .before .before .before .before .before .before .before .before .before .before .before .before in
+    let over = c .before .before .before .before .before .before .before .before .before .overflows .ensures in
+    let call = c .before .before .meet-all .ensures in
+    (seq-goes _ _ _ _ _ _ _ (start .pre .2) (over .1) _ (c .before .before .before .before .before .before .before .wait-all .ensures) _ (sym (over .0) ∙ c .before .before .before .before .before .before .if1 .left) (call .0), call .1)
 
 pub seq-turn-spec : {M : Type 1} → statement M
 seq-turn-spec =
     tie.close
     (tie.spec
-    fresh-requires
-    wait-all-requires
     overflows-requires
+    wait-all-requires
     full-requires
     returns
     meet-all-requires

@@ -1,7 +1,13 @@
 -- One of three ways.
 use mathlib.Core.Path.{_≡_, refl, sym, ap, _∙_}
-use Rattle.operators.proofs.Arrivals.{wait-stopped, wait-full, wait-goes}
+use native.Mathlib.Omega.{arith}
+use denote.Ref.{now}
+use lib.ListN.{length}
+use Rattle.occurrences.specs.Packed.{held, occurrenceOf}
+use Rattle.occurrences.proofs.Packed.{length-held}
+use Rattle.waiting_lists.proofs.Appends.{appended-full, appended-room}
 use Rattle.operators.specs.Steps.{meeting}
+use Rattle.operators.proofs.Arrivals.{wait-stopped, wait-full, wait-goes}
 use borrow.Author.Needs.{needs}
 use Rattle.operators.proofs.wait.Statement.{statement}
 use Rattle.operators.proofs.wait.Tie as tie
@@ -10,31 +16,35 @@ is-reached-requires : tie.Need-is-reached-requires
 is-reached-requires c κs = search needs
 
 returns : tie.Need-returns
-returns c = (λ out. wait-stopped _ _ _ (sym (c .before .is-reached .ensures) ∙ c .if1 .taken), refl, refl)
-
-is-full-requires : tie.Need-is-full-requires
-is-full-requires c κs = search needs
+returns c = (λ made out. wait-stopped _ _ _ (sym (c .before .is-reached .ensures) ∙ c .if1 .taken), refl, refl)
 
 full-requires : tie.Need-full-requires
 full-requires c κs = search needs
 
 returns-2 : tie.Need-returns-2
-returns-2 c = (λ out. ap (meeting _) (c .full .ensures .0 out) ∙ wait-full _ _ _ (sym (c .before .before .before .before .is-reached .ensures) ∙ c .before .before .before .if1 .left) (sym (c .before .before .is-full .ensures) ∙ c .before .if2 .taken), c .full .ensures .1, c .full .ensures .2)
+returns-2 c =
+    let many = c .before in
+    let go = many .before .before .before in
+    let start = go .before .before in
+    let list = now (start .args .list) in
+    let whole : length list ≡ 16 = search needs in
+    let full = appended-full (held list (start .args .waiting)) (occurrenceOf (now (start .args .o))) (omega (arith, whole, length-held list (start .args .waiting), many .if2 .taken)) .0 in
+    (λ made out. ap (meeting _) (c .full .ensures .0 made out) ∙ wait-full _ _ _ (sym (go .before .is-reached .ensures) ∙ go .if1 .left) full, c .full .ensures .1, c .full .ensures .2)
 
 append-to-requires : tie.Need-append-to-requires
 append-to-requires c κs = search needs
 
 returns-3 : tie.Need-returns-3
-returns-3 c = (λ out. wait-goes _ _ _ _ (sym (c .before .before .before .before .is-reached .ensures) ∙ c .before .before .before .if1 .left) (sym (c .before .before .is-full .ensures) ∙ c .before .if2 .left) (c .append-to .ensures), refl, refl)
+returns-3 c =
+    let few = c .before .before in
+    let go = few .before .before .before in
+    let start = go .before .before in
+    let list = now (start .args .list) in
+    let whole : length list ≡ 16 = search needs in
+    let room = appended-room (held list (start .args .waiting)) (occurrenceOf (now (start .args .o))) (omega (arith, whole, length-held list (start .args .waiting), few .if2 .left)) .0 in
+    (λ made out. wait-goes _ _ _ _ (sym (go .before .is-reached .ensures) ∙ go .if1 .left) room (c .append-to .ensures), refl, refl)
 
 pub wait-spec : {M : Type 1} → statement M
 wait-spec =
     tie.close
-    (tie.spec
-    is-reached-requires
-    returns
-    is-full-requires
-    full-requires
-    returns-2
-    append-to-requires
-    returns-3)
+    (tie.spec is-reached-requires returns full-requires returns-2 append-to-requires returns-3)

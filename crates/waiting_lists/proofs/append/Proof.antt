@@ -50,13 +50,10 @@ use denote.Triple.Spec.{Meets, tripleOf}
 use denote.Triple.Table.{entered, cited}
 use denote.Triple.Walked.{says, needs, Stays, stay-ref, stay-none-ref, stay-none-slice, stay-dropped, walkOf, goes-ref, goes-none-ref, goes-none-slice, goes-dropped, Walks, ends-at, walked, walk-meets}
 use denote.Exit.{yes}
-use Rattle.waiting_lists.specs.Waiting.{appendedTo, held, isFull}
+use Rattle.waiting_lists.specs.Steps.{oneMore}
 use Rattle.waiting_lists.specs.declared.WaitingList.{WaitingList}
 use Rattle.waiting_lists.proofs.WaitingList as RWaitingList
 use Rattle.waiting_lists.proofs.WaitingList.Laws as LWaitingList
-use Rattle.occurrences.specs.declared.Occurrence.{Occurrence}
-use Rattle.occurrences.proofs.Occurrence as ROccurrence
-use Rattle.occurrences.proofs.Occurrence.Laws as LOccurrence
 use Rattle.waiting_lists.specs.declared.AfterAppend.{AfterAppend}
 use Rattle.waiting_lists.proofs.AfterAppend as RAfterAppend
 use Rattle.waiting_lists.proofs.AfterAppend.Laws as LAfterAppend
@@ -77,15 +74,15 @@ abbrev ref : Ty
 ref = tyRef (named 0) mut (pointee (R .written))
 
 abbrev stayed : Stays (self.ended .signature .params) (self.ended .kept)
-stayed = (stay-ref (0 ∷ []) tt (plain (λ _. R)), (stay-dropped (plain (λ _. ROccurrence.the-row)) yes, tt))
+stayed = (stay-ref (0 ∷ []) tt (plain (λ _. R)), tt)
 
 -- the function with its locals' types as this file writes them: over `code.function` itself the kernel may stop at its step limit
 abbrev spelled : Fn
 spelled = record {
   lifetimes = 1;
   outlives = [];
-  params = 2;
-  locals = local tyBool valueLocal ∷ local ref valueLocal ∷ local LOccurrence.mir valueLocal ∷ local LAfterAppend.mir valueLocal ∷ local LWaitingList.mir valueLocal ∷ [];
+  params = 1;
+  locals = local (tyInt w64) valueLocal ∷ local ref valueLocal ∷ local LAfterAppend.mir valueLocal ∷ local LWaitingList.mir valueLocal ∷ [];
   body = parts.t-1;
 }
 
@@ -100,15 +97,15 @@ Callee 𝓤 H A at-mem run = tripleOf 𝓤 H A callee.signature (callee.spec �
 list-is : (r : AfterAppend) (vs : List Val) → Is RAfterAppend.the-row r vs → Is R (r .list) ((LL.val RWaitingList.the-type LWaitingList.the-laws (r .list)) ∷ [])
 list-is r vs g = LL.owed RAfterAppend.the-type LAfterAppend.the-laws r vs g .1 .0
 
-module _ {M : Type 1} (𝓤 : URA M) (H : Heap 𝓤) (A : Atoms 𝓤) (W : Given 𝓤 H A) (at-mem : Memory → SProp 𝓤) (run : Routine → Fun 𝓤) (κ : Lft) (q : Share) (b o : ℕ) (γ : GName) (h : WaitingList) (p1 : Occurrence) (gp1 : Is ROccurrence.the-row p1 ((LL.val ROccurrence.the-type LOccurrence.the-laws p1) ∷ [])) where
+module _ {M : Type 1} (𝓤 : URA M) (H : Heap 𝓤) (A : Atoms 𝓤) (W : Given 𝓤 H A) (at-mem : Memory → SProp 𝓤) (run : Routine → Fun 𝓤) (κ : Lft) (q : Share) (b o : ℕ) (γ : GName) (h : WaitingList) where
   abbrev Arg : Type 0
-  Arg = RefT WaitingList × (Occurrence × Unit {0})
+  Arg = RefT WaitingList × Unit {0}
 
   abbrev x : Arg
-  x = (record { ptr = (b, o); name = γ; now = h }, (p1, tt))
+  x = (record { ptr = (b, o); name = γ; now = h }, tt)
 
-  abbrev at : List Val × (List Val × (Unit {0}))
-  at = (vptr b o ∷ [], ((LL.val ROccurrence.the-type LOccurrence.the-laws p1) ∷ [], tt))
+  abbrev at : List Val × (Unit {0})
+  at = (vptr b o ∷ [], tt)
 
   abbrev Post : Val → SProp 𝓤
   Post = walkOf 𝓤 H A self.ended stayed (self.clauses 𝓤 H A at-mem run) .post (((κ, tt), (q, tt), tt, x, at), tt)
@@ -118,55 +115,55 @@ module _ {M : Type 1} (𝓤 : URA M) (H : Heap 𝓤) (A : Atoms 𝓤) (W : Given
 
   -- ---- the call
   abbrev to : Callee 𝓤 H A at-mem run .Ghost
-  to = ((tt, tt, tt, (h, (p1, tt)), ((LL.val RWaitingList.the-type LWaitingList.the-laws h) ∷ [], ((LL.val ROccurrence.the-type LOccurrence.the-laws p1) ∷ [], tt))), tt)
+  to = ((tt, tt, tt, (h, tt), ((LL.val RWaitingList.the-type LWaitingList.the-laws h) ∷ [], tt)), tt)
 
   goes-to : Is R h ((LL.val RWaitingList.the-type LWaitingList.the-laws h) ∷ []) → ent 𝓤 (⋆ 𝓤 H A ([])) (Callee 𝓤 H A at-mem run .pre to)
   goes-to g =
-      qed W ([]) ∵ nothing ! $ nothing ! $ owned ! ROccurrence.the-row (Is ROccurrence.the-row) (LL.makes ROccurrence.the-type LOccurrence.the-plain 𝓤 H A) p1 ((LL.val ROccurrence.the-type LOccurrence.the-laws p1) ∷ []) gp1 $ fjoin ! $ owned ! R (Is R) (LL.makes RWaitingList.the-type LWaitingList.the-plain 𝓤 H A) h ((LL.val RWaitingList.the-type LWaitingList.the-laws h) ∷ []) g $ fjoin ! $ move ! (1 ∷ 0 ∷ []) $ join ! $ frame ! $ done !
+      qed W ([]) ∵ nothing ! $ nothing ! $ owned ! R (Is R) (LL.makes RWaitingList.the-type LWaitingList.the-plain 𝓤 H A) h ((LL.val RWaitingList.the-type LWaitingList.the-laws h) ∷ []) g $ fjoin ! $ move ! (1 ∷ 0 ∷ []) $ join ! $ frame ! $ done !
 
-  said : (r : AfterAppend) → ent 𝓤 (ensured 𝓤 H A callee.ended (callee.clauses 𝓤 H A at-mem run) tt (h, (p1, tt)) tt r) (fact 𝓤 (((r .full) ≡ isFull (held h)) × (held (r .list) ≡ appendedTo (held h) p1)))
-  said r = exE 𝓤 _ (λ ws. snd∗ 𝓤 (sem 𝓤 H A (lasts callee.ended tt (h, (p1, tt)) ws)) (fact 𝓤 (((r .full) ≡ isFull (held h)) × (held (r .list) ≡ appendedTo (held h) p1))))
+  said : (r : AfterAppend) → ent 𝓤 (ensured 𝓤 H A callee.ended (callee.clauses 𝓤 H A at-mem run) tt (h, tt) tt r) (fact 𝓤 (r ≡ oneMore h))
+  said r = exE 𝓤 _ (λ ws. snd∗ 𝓤 (sem 𝓤 H A (lasts callee.ended tt (h, tt) ws)) (fact 𝓤 (r ≡ oneMore h)))
 
-  exits : (r : AfterAppend) → ((r .full) ≡ isFull (held h)) × (held (r .list) ≡ appendedTo (held h) p1) → Is bool (r .full) ((vbool (r .full)) ∷ []) → ent 𝓤 (⋆ 𝓤 H A (‵ (fobs γ (R .coded .code (r .list))) ∷ ‵ (fbor κ (Body (mem R) b o γ)) ∷ ‵ (flft κ q) ∷ [])) (Post (vbool (r .full)))
+  exits : (r : AfterAppend) → r ≡ oneMore h → Is usize (r .place) ((vint w64 (r .place)) ∷ []) → ent 𝓤 (⋆ 𝓤 H A (‵ (fobs γ (R .coded .code (r .list))) ∷ ‵ (fbor κ (Body (mem R) b o γ)) ∷ ‵ (flft κ q) ∷ [])) (Post (vint w64 (r .place)))
   exits r e gq =
       qed W (‵ (fobs γ (R .coded .code (r .list))) ∷ ‵ (fbor κ (Body (mem R) b o γ)) ∷ ‵ (flft κ q) ∷ []) ∵
-      suffices ! _ (ends-at 𝓤 H A self.ended stayed (self.clauses 𝓤 H A at-mem run) W (((κ, tt), (q, tt), tt, x, at), tt) (vbool (r .full)) (r .full) ((r .list), (tt, tt)) (tt, (tt, tt))) $ says ! e $
-      nothing ! $ move ! (3 ∷ 0 ∷ []) $ join ! $ frame ! $ feqI ! (List Val) (vptr b o ∷ []) (vptr b o ∷ []) refl $ fjoin3 ! $ nothing ! $ nothing ! $ fjoin ! $ move ! (1 ∷ 0 ∷ []) $ fjoin ! $
-      owned ! bool (Is bool) (bool-makes 𝓤 H A W) (r .full) ((vbool (r .full)) ∷ []) gq $ move ! (1 ∷ 0 ∷ []) $ done !
+      suffices ! _ (ends-at 𝓤 H A self.ended stayed (self.clauses 𝓤 H A at-mem run) W (((κ, tt), (q, tt), tt, x, at), tt) (vint w64 (r .place)) (r .place) ((r .list), tt) (tt, tt)) $ says ! (ap (λ (y : AfterAppend). y .place) e, ap (λ (y : AfterAppend). y .list) e) $
+      nothing ! $ move ! (3 ∷ 0 ∷ []) $ join ! $ frame ! $ feqI ! (List Val) (vptr b o ∷ []) (vptr b o ∷ []) refl $ fjoin3 ! $ nothing ! $ move ! (1 ∷ 0 ∷ []) $ fjoin ! $
+      owned ! usize (Is usize) (uint-makes 𝓤 H A W w64) (r .place) ((vint w64 (r .place)) ∷ []) gq $ move ! (1 ∷ 0 ∷ []) $ done !
 
   module _ (C : Calls 𝓤 H) (Λ : Loops 𝓤 H) (fm : FmC 𝓤 H (W .laws) C) (known : Triple 𝓤 (C #callee) (Callee 𝓤 H A at-mem run)) where
-    walk : ent 𝓤 (onEntry 𝓤 H A self.signature (κ, tt) (q, tt) x at) (WpFn 𝓤 H C Λ spelled (vptr b o ∷ (LL.val ROccurrence.the-type LOccurrence.the-laws p1) ∷ []) Post)
+    walk : ent 𝓤 (onEntry 𝓤 H A self.signature (κ, tt) (q, tt) x at) (WpFn 𝓤 H C Λ spelled (vptr b o ∷ []) Post)
     walk =
-        qed W ((‵ (flft κ q) ⊛ ‵ ftrue) ∷ ‵ (owns (MutRef (named 0) κ R ∷ ROccurrence.the-row ∷ []) x at) ∷ []) ∵ enter ! C Λ spelled (vptr b o ∷ (LL.val ROccurrence.the-type LOccurrence.the-laws p1) ∷ []) _ $
-        alloc1 ! (λ l0. alloc1 ! (λ l1. alloc1 ! (λ l2. alloc1 ! (λ l3. alloc1 ! (λ l4. alloc0 ! $ params1 ! $ pass1 ! (init ! 6 refl (tt, tt)) $ pass1 ! (init ! 4 refl (LL.lawful ROccurrence.the-type LOccurrence.the-laws 𝓤 H A W .typed p1 _ gp1 .0)) $ pass0 ! $
-        move ! (11 ∷ []) $ fsplit ! $ fsplit3 ! $ drop ! $ move ! (13 ∷ []) $ split ! $ move ! (2 ∷ 3 ∷ 0 ∷ []) $
+        qed W ((‵ (flft κ q) ⊛ ‵ ftrue) ∷ ‵ (owns (MutRef (named 0) κ R ∷ []) x at) ∷ []) ∵ enter ! C Λ spelled (vptr b o ∷ []) _ $
+        alloc1 ! (λ l0. alloc1 ! (λ l1. alloc1 ! (λ l2. alloc1 ! (λ l3. alloc0 ! $ params1 ! $ pass1 ! (init ! 4 refl (tt, tt)) $ pass0 ! $
+        move ! (9 ∷ []) $ fsplit ! $ fsplit3 ! $ drop ! $ move ! (11 ∷ []) $ split ! $ move ! (2 ∷ 3 ∷ 0 ∷ []) $
         opens ! tt R {h = h} b o (λ vs. spelt ! R (Is R) (shows 𝓤 H A R) (LL.vals RWaitingList.the-type LWaitingList.the-laws) (LL.tells RWaitingList.the-type LWaitingList.the-laws) fullShare h vs b o $ move ! (1 ∷ []) $ peeks ! R (Is R) (shows 𝓤 H A R) h ((LL.val RWaitingList.the-type LWaitingList.the-laws h) ∷ []) (λ was. move ! (1 ∷ 0 ∷ []) $
-        assigns ! (of-opd ! (load ! (from ! (hop ! (look ! 13 refl) (stop !))) (look-raw ! 0 refl))) (from ! (stop !)) (init ! 7 refl (typedS h was)) $
+        assigns ! (of-opd ! (load ! (from ! (hop ! (look ! 11 refl) (stop !))) (look-raw ! 0 refl))) (from ! (stop !)) (init ! 7 refl (typedS h was)) $
         use0 W (raw (Callee 𝓤 H A at-mem run .pre to)) (goes-to was) $
-        calls-at ! fm (Callee 𝓤 H A at-mem run) known to (and-then ! (load ! (from ! (stop !)) (look ! 8 refl)) (and-then ! (load ! (from ! (stop !)) (look ! 12 refl)) (no-more !))) (λ w.
-        use1 W (later (some (λ (r : AfterAppend). ((‵ ftrue) ⊛ ‵ (RAfterAppend.the-row .own r (w ∷ []))) ⊛ raw (ensured 𝓤 H A callee.ended (callee.clauses 𝓤 H A at-mem run) tt (h, (p1, tt)) tt r)))) (id⊢ 𝓤 _) $ await ! tt $ pick ! (λ r.
-        split ! $ move ! (1 ∷ []) $ use1 W (raw (fact 𝓤 (((r .full) ≡ isFull (held h)) × (held (r .list) ≡ appendedTo (held h) p1)))) (said r) $ heard ! (((r .full) ≡ isFull (held h)) × (held (r .list) ≡ appendedTo (held h) p1)) (λ e. split ! $ drop ! $
+        calls-at ! fm (Callee 𝓤 H A at-mem run) known to (and-then ! (load ! (from ! (stop !)) (look ! 8 refl)) (no-more !)) (λ w.
+        use1 W (later (some (λ (r : AfterAppend). ((‵ ftrue) ⊛ ‵ (RAfterAppend.the-row .own r (w ∷ []))) ⊛ raw (ensured 𝓤 H A callee.ended (callee.clauses 𝓤 H A at-mem run) tt (h, tt) tt r)))) (id⊢ 𝓤 _) $ await ! tt $ pick ! (λ r.
+        split ! $ move ! (1 ∷ []) $ use1 W (raw (fact 𝓤 (r ≡ oneMore h))) (said r) $ heard ! (r ≡ oneMore h) (λ e. split ! $ drop ! $
         peeks ! RAfterAppend.the-row (Is RAfterAppend.the-row) (shows 𝓤 H A RAfterAppend.the-row) r (w ∷ []) (λ is.
         land ! (from ! (stop !)) (init ! 10 refl (LL.lawful RAfterAppend.the-type LAfterAppend.the-laws 𝓤 H A W .typed r _ is .0)) $ drop ! $
-        rewrite ! 9 (λ (u : Val). ‵ (fat fullShare LAfterAppend.mir l3 0 u)) (ap only ((LL.tells RAfterAppend.the-type LAfterAppend.the-laws) r (w ∷ []) is)) refl $
-        assigns ! (of-opd ! (load ! (from ! (fld ! refl (stop !))) (look-in ! 9 (sub ! 1 refl (whole !))))) (from ! (hop ! (look ! 13 refl) (stop !))) (store-raw ! 0 refl (typedS (r .list) (list-is r _ is))) $
-        assigns ! (of-opd ! (load ! (from ! (fld ! refl (stop !))) (look-in ! 9 (sub ! 0 refl (whole !))))) (from ! (stop !)) (init ! 15 refl (bool-lawful 𝓤 H A W .typed (r .full) _ (LL.owed RAfterAppend.the-type LAfterAppend.the-laws r _ is .0) .0)) $
+        rewrite ! 9 (λ (u : Val). ‵ (fat fullShare LAfterAppend.mir l2 0 u)) (ap only ((LL.tells RAfterAppend.the-type LAfterAppend.the-laws) r (w ∷ []) is)) refl $
+        assigns ! (of-opd ! (load ! (from ! (fld ! refl (stop !))) (look-in ! 9 (sub ! 1 refl (whole !))))) (from ! (hop ! (look ! 11 refl) (stop !))) (store-raw ! 0 refl (typedS (r .list) (list-is r _ is))) $
+        assigns ! (of-opd ! (load ! (from ! (fld ! refl (stop !))) (look-in ! 9 (sub ! 0 refl (whole !))))) (from ! (stop !)) (init ! 13 refl (uint-lawful 𝓤 H A W w64 .typed (r .place) _ (LL.owed RAfterAppend.the-type LAfterAppend.the-laws r _ is .0) .0)) $
         move ! (1 ∷ []) $ drop ! $ owned ! R (Is R) (LL.makes RWaitingList.the-type LWaitingList.the-plain 𝓤 H A) (r .list) ((LL.val RWaitingList.the-type LWaitingList.the-laws (r .list)) ∷ []) (list-is r _ is) $ move ! (1 ∷ 0 ∷ []) $ closes ! tt R (r .list) ((LL.val RWaitingList.the-type LWaitingList.the-laws (r .list)) ∷ []) b o $
-        returns ! (look ! 13 refl) $ forget ! 13 refl $ forget ! 11 refl $ forget ! 9 refl $ forget ! 7 refl $ forget ! 5 refl $
-        move ! (13 ∷ 14 ∷ []) $ free1 ! $ move ! (11 ∷ 12 ∷ []) $ free1 ! $ move ! (9 ∷ 10 ∷ []) $ free1 ! $ move ! (7 ∷ 8 ∷ []) $ free1 ! $ move ! (5 ∷ 6 ∷ []) $ free1 ! $ free0 ! $
-        keep ! (0 ∷ 1 ∷ 2 ∷ []) $ by ! (exits r e (LL.owed RAfterAppend.the-type LAfterAppend.the-laws r _ is .0)))))))))))))
+        returns ! (look ! 11 refl) $ forget ! 11 refl $ forget ! 9 refl $ forget ! 7 refl $ forget ! 5 refl $
+        move ! (11 ∷ 12 ∷ []) $ free1 ! $ move ! (9 ∷ 10 ∷ []) $ free1 ! $ move ! (7 ∷ 8 ∷ []) $ free1 ! $ move ! (5 ∷ 6 ∷ []) $ free1 ! $ free0 ! $
+        keep ! (0 ∷ 1 ∷ 2 ∷ []) $ by ! (exits r e (LL.owed RAfterAppend.the-type LAfterAppend.the-laws r _ is .0))))))))))))
 
 module _ {M : Type 1} (𝓤 : URA M) (H : Heap 𝓤) (A : Atoms 𝓤) (W : Given 𝓤 H A) (at-mem : Memory → SProp 𝓤) (run : Routine → Fun 𝓤) (𝓣 : Tables 𝓤 H) where
   self-walks : Triple 𝓤 (𝓣 .C #callee) (Callee 𝓤 H A at-mem run) → Walks 𝓤 H A self.ended stayed (WpFn 𝓤 H (𝓣 .C) (𝓣 .Λ) spelled) (self.clauses 𝓤 H A at-mem run)
   self-walks known =
-      walked 𝓤 H A self.ended stayed (self.clauses 𝓤 H A at-mem run) (WpFn 𝓤 H (𝓣 .C) (𝓣 .Λ) spelled) (λ κs. (ptr-vals, ((LL.vals ROccurrence.the-type LOccurrence.the-laws), tt))) (λ κs. (mut-tells (named 0) (κs .0) R, ((LL.tells ROccurrence.the-type LOccurrence.the-laws), tt)))
-      (λ κs qs bounds a g are. via 𝓤 _ (fst∗ 𝓤 _ (emp 𝓤)) (walk 𝓤 H A W at-mem run (κs .0) (qs .0) (a .0 .ptr .0) (a .0 .ptr .1) (a .0 .name) (a .0 .now) (a .1 .0) (are .1 .0) (𝓣 .C) (𝓣 .Λ) (fmOf 𝓤 H (W .laws) 𝓣) known))
+      walked 𝓤 H A self.ended stayed (self.clauses 𝓤 H A at-mem run) (WpFn 𝓤 H (𝓣 .C) (𝓣 .Λ) spelled) (λ κs. (ptr-vals, tt)) (λ κs. (mut-tells (named 0) (κs .0) R, tt))
+      (λ κs qs bounds a g are. via 𝓤 _ (fst∗ 𝓤 _ (emp 𝓤)) (walk 𝓤 H A W at-mem run (κs .0) (qs .0) (a .0 .ptr .0) (a .0 .ptr .1) (a .0 .name) (a .0 .now) (𝓣 .C) (𝓣 .Λ) (fmOf 𝓤 H (W .laws) 𝓣) known))
 
 self-meets : {M : Type 1} (𝓤 : URA M) (H : Heap 𝓤) (A : Atoms 𝓤) (W : Given 𝓤 H A) (at-mem : Memory → SProp 𝓤) (run : Routine → Fun 𝓤) (𝓣 : Tables 𝓤 H)
     → Triple 𝓤 (𝓣 .C #callee) (Callee 𝓤 H A at-mem run)
     → Meets 𝓤 H A self.signature (WpFn 𝓤 H (𝓣 .C) (𝓣 .Λ) code.function) (self.spec 𝓤 H A at-mem run)
 self-meets 𝓤 H A W at-mem run 𝓣 known =
-    walk-meets 𝓤 H A self.ended stayed W (goes-ref 𝓤 H A W 1 0 tt (plain (λ _. R)), (goes-dropped 𝓤 H A W 1 (plain (λ _. ROccurrence.the-row)) yes (λ κs y f. refl), tt)) (self.clauses 𝓤 H A at-mem run) (WpFn 𝓤 H (𝓣 .C) (𝓣 .Λ) code.function) (WpFn-mono 𝓤 H (W .laws) 𝓣 code.function)
+    walk-meets 𝓤 H A self.ended stayed W (goes-ref 𝓤 H A W 1 0 tt (plain (λ _. R)), tt) (self.clauses 𝓤 H A at-mem run) (WpFn 𝓤 H (𝓣 .C) (𝓣 .Λ) code.function) (WpFn-mono 𝓤 H (W .laws) 𝓣 code.function)
     (subst (λ (f : Fn). Walks 𝓤 H A self.ended stayed (WpFn 𝓤 H (𝓣 .C) (𝓣 .Λ) f) (self.clauses 𝓤 H A at-mem run)) spelled-is (self-walks 𝓤 H A W at-mem run 𝓣 known))
 
 pub append-spec : {M : Type 1} → stated.statement M

@@ -1,24 +1,20 @@
 -- There is room, or not.
-use lib.ListN.{length-map}
-use Rattle.waiting_lists.proofs.Appends.{append-has-room, append-is-full}
 use borrow.Author.Needs.{needs}
+use borrow.Author.Tests.{lt-ltb, le-ltb}
+use Rattle.waiting_lists.specs.Steps.{oneMore}
 use Rattle.waiting_lists.proofs.appended.Statement.{statement}
 use Rattle.waiting_lists.proofs.appended.Tie as tie
 
-mul-o : tie.Need-mul-o
-mul-o c = search needs
-
-element-set-from-o : tie.Need-element-set-from-o
-element-set-from-o c = search needs
-
-add-w : tie.Need-add-w
-add-w c = search needs
+add-t6 : tie.Need-add-t6
+add-t6 c = search needs
 
 returns : tie.Need-returns
-returns c = append-has-room _ _ _ (simp length-map at (c .before .good .0 .1 .1 .0 .1 .0 .1)) (c .if1 .taken)
+unfolding oneMore
+returns c = simp (lt-ltb _ _ (c .if1 .taken))
 
 returns-2 : tie.Need-returns-2
-returns-2 c = append-is-full _ _ _ (simp length-map at (c .before .good .0 .1 .1 .0 .1 .0 .1)) (c .if1 .left)
+unfolding oneMore
+returns-2 c = simp (le-ltb _ _ (c .if1 .left))
 
 pub appended-spec : {M : Type 1} → statement M
-appended-spec = tie.close (tie.spec mul-o element-set-from-o add-w returns returns-2)
+appended-spec = tie.close (tie.spec add-t6 returns returns-2)

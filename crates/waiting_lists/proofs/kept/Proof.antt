@@ -1,75 +1,73 @@
--- In place: the first k places hold those of the first i that stay, and from i on nothing has moved.
-use mathlib.Core.Path.{_≡_, refl}
-use Prim.Native.Nat.{min, _-_, _≤_}
+-- The invariant: those counted and those still to count are as many as there are.
+use mathlib.Core.Path.{_≡_, sym, ap, _∙_}
+use Prim.Native.Nat.{_+_, _-_, _≤_}
 use native.Mathlib.Omega.{arith}
+use lib.ListN.{drop, length}
+use Rattle.sequences.specs.Marks.{unmarked}
+use Rattle.sequences.specs.Range.{range}
+use Rattle.sequences.proofs.Marks.{unmarked-end}
+use Rattle.sequences.proofs.Range.{length-range}
+use Rattle.waiting_lists.specs.Steps.{fewer}
+use Rattle.waiting_lists.proofs.Counts.{count-turn}
 use borrow.Author.Needs.{needs}
-use borrow.Author.Tests.{not-true, not-false}
-use lib.ListN.{length, length-map}
-use Rattle.sequences.specs.Marks.{firstMark}
-use Rattle.occurrences.specs.Occurrences.{blank}
-use Rattle.waiting_lists.specs.Waiting.{held}
-use Rattle.waiting_lists.proofs.Removals.{Closing, closing-start, closing-gone, closing-kept, closing-end}
 use Rattle.waiting_lists.proofs.kept.Statement.{statement}
 use Rattle.waiting_lists.proofs.kept.Tie as tie
 
 abbrev Inv-loop : tie.InvT-loop
-Inv-loop gone first n start w₀ k₀ i₀ w k i = (i ≤ n) × (k ≤ i) × (length (w .items) ≡ 16) × Closing (w₀ .items) (w₀ .len) gone (w .items) k i
+Inv-loop gone n k₀ i₀ k i = (i ≤ n) × (k ≤ i) × (k + length (unmarked (drop i (range 0 n)) (drop i gone)) ≡ length (unmarked (range 0 n) gone))
 
 abbrev μ-loop : tie.MeasureT-loop
-μ-loop gone first n start w₀ k₀ i₀ w k i = n - i
+μ-loop gone n k₀ i₀ k i = n - i
 
-first-marked-requires : tie.Need-first-marked-requires Inv-loop μ-loop
-first-marked-requires c κs = search needs
-
+-- src/lib.rt:82:9
 count-requires : tie.Need-count-requires Inv-loop μ-loop
 count-requires c κs = search needs
 
-earlier-requires : tie.Need-earlier-requires Inv-loop μ-loop
-earlier-requires c κs = search needs
-
+-- src/lib.rt:85:5
 loop-holds : tie.Need-loop-holds Inv-loop μ-loop
-loop-holds c =
-    let s = c .before .before .before in
-    let n : c .before .count .result ≡ length (held (s .args .list)) = c .before .count .ensures .0 in
-    let f : c .before .before .first-marked .result ≡ firstMark (s .args .t2) = c .before .before .first-marked .ensures in
-    let e : c .earlier .result ≡ min (c .before .before .first-marked .result) (c .before .count .result) = c .earlier .ensures in
-    (omega arith, search needs, simp length-map at (s .good .0 .1 .1 .0 .1 .0 .1), closing-start (s .args .list .items) (s .args .list .len) (s .args .t2) _ (omega arith))
+loop-holds c = search needs
 
-add-next : tie.Need-add-next Inv-loop μ-loop
-add-next c = search needs
+-- src/lib.rt:86:28
+array-read-one-unless : tie.Need-array-read-one-unless Inv-loop μ-loop
+array-read-one-unless c = search needs
 
-array-read-if1 : tie.Need-array-read-if1 Inv-loop μ-loop
-array-read-if1 c = search needs
+-- src/lib.rt:86:17
+one-unless-requires : tie.Need-one-unless-requires Inv-loop μ-loop
+one-unless-requires c κs = search needs
 
-mul-o : tie.Need-mul-o Inv-loop μ-loop
-mul-o c = search needs
-
-element-copy-out-o : tie.Need-element-copy-out-o Inv-loop μ-loop
-element-copy-out-o c = search needs
-
-mul-o-2 : tie.Need-mul-o-2 Inv-loop μ-loop
-mul-o-2 c = search needs
-
-element-set-from-o : tie.Need-element-set-from-o Inv-loop μ-loop
-element-set-from-o c = search needs
-
+-- src/lib.rt:86:13
 add-k : tie.Need-add-k Inv-loop μ-loop
 add-k c = search needs
 
+-- src/lib.rt:87:13
+add-i : tie.Need-add-i Inv-loop μ-loop
+add-i c = search needs
+
+-- src/lib.rt:85:5
 loop-less : tie.Need-loop-less Inv-loop μ-loop
 loop-less c = search needs
 
+-- src/lib.rt:85:5
 loop-again : tie.Need-loop-again Inv-loop μ-loop
-loop-again c = let b = c .before .before .before in let s = b .before .before .before .before in let l = s .args .list in let i = b .loop .i in let n : b .before .before .count .result ≡ length (held l) = b .before .before .count .ensures .0 in (search needs, search needs, search needs, closing-kept (l .items) (l .len) (s .args .t2) (b .loop .w .items) (b .loop .k) i blank (b .loop .inv .3) (omega arith) (search needs) _ (search needs) refl (not-true _ (c .before .if1 .taken)))
+loop-again c =
+    let b = c .before .before in
+    let e = b .before in
+    let a = e .before .args in
+    let l = length-range 0 (e .count .result) in
+    let turn = count-turn (range 0 (e .count .result)) (a .t2) (b .loop .i) 0 (omega (arith, l, c .before .loop-test .taken)) (search needs) in
+    (search needs, omega (arith, b .loop .inv .1, c .one-unless .ensures .1), omega (arith, turn, c .one-unless .ensures .0, b .loop .inv .2))
 
-loop-less-2 : tie.Need-loop-less-2 Inv-loop μ-loop
-loop-less-2 c = search needs
-
-loop-again-2 : tie.Need-loop-again-2 Inv-loop μ-loop
-loop-again-2 c = let b = c .before .before in let s = b .before .before .before .before in let l = s .args .list in let i = b .loop .i in let n : b .before .before .count .result ≡ length (held l) = b .before .before .count .ensures .0 in (search needs, search needs, search needs, closing-gone (l .items) (l .len) (s .args .t2) (b .loop .w .items) (b .loop .k) i blank (b .loop .inv .3) (omega arith) (search needs) (not-false _ (c .if1 .left)))
-
+-- src/lib.rt:79:1
 returns : tie.Need-returns Inv-loop μ-loop
-returns c = let b = c .before in let s = b .before .before .before .before in let l = s .args .list in let i = b .loop .i in let n : b .before .before .count .result ≡ length (held l) = b .before .before .count .ensures .0 in closing-end (l .items) (l .len) (s .args .t2) _ _ i (b .loop .inv .3) (omega arith)
+unfolding fewer
+returns c =
+    let b = c .before in
+    let e = b .before in
+    let a = e .before .args in
+    let n = e .count .result in
+    let none = ap length (unmarked-end (range 0 n) (a .t2) (b .loop .i) (omega (arith, length-range 0 n, c .loop-test .left))) in
+    let all : b .loop .k ≡ length (unmarked (range 0 n) (a .t2)) = omega (arith, none, b .loop .inv .2) in
+    ap (λ k. record { len = k }) (all ∙ ap (λ m. length (unmarked (range 0 m) (a .t2))) (e .count .ensures .0))
 
 pub kept-spec : {M : Type 1} → statement M
 kept-spec =
@@ -77,19 +75,12 @@ kept-spec =
     (tie.spec
     Inv-loop
     μ-loop
-    first-marked-requires
     count-requires
-    earlier-requires
     loop-holds
-    add-next
-    array-read-if1
-    mul-o
-    element-copy-out-o
-    mul-o-2
-    element-set-from-o
+    array-read-one-unless
+    one-unless-requires
     add-k
+    add-i
     loop-less
     loop-again
-    loop-less-2
-    loop-again-2
     returns)

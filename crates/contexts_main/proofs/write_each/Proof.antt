@@ -1,0 +1,58 @@
+-- The loop counts the places.
+use Prim.Native.Nat.{_-_, _≤_}
+use borrow.Author.Needs.{needs}
+use Rattle.contexts_main.proofs.write_each.Statement.{statement}
+use Rattle.contexts_main.proofs.write_each.Tie as tie
+
+abbrev Inv-loop : tie.InvT-loop
+Inv-loop list waiting o taken n i₀ i = (i ≤ n) × (n ≤ 16)
+
+abbrev μ-loop : tie.MeasureT-loop
+μ-loop list waiting o taken n i₀ i = n - i
+
+count-requires : tie.Need-count-requires Inv-loop μ-loop
+count-requires c κs = search needs
+
+loop-holds : tie.Need-loop-holds Inv-loop μ-loop
+loop-holds c = search needs
+
+array-read-write-combined : tie.Need-array-read-write-combined Inv-loop μ-loop
+array-read-write-combined c = search needs
+
+mul-write-combined : tie.Need-mul-write-combined Inv-loop μ-loop
+mul-write-combined c = search needs
+
+index-1-write-combined : tie.Need-index-1-write-combined Inv-loop μ-loop
+index-1-write-combined c = search needs
+
+write-combined-requires : tie.Need-write-combined-requires Inv-loop μ-loop
+write-combined-requires c κs = search needs
+
+add-i : tie.Need-add-i Inv-loop μ-loop
+add-i c = search needs
+
+loop-less : tie.Need-loop-less Inv-loop μ-loop
+loop-less c = search needs
+
+loop-again : tie.Need-loop-again Inv-loop μ-loop
+loop-again c = search needs
+
+returns : tie.Need-returns Inv-loop μ-loop
+returns c = search needs
+
+pub write-each-spec : {M : Type 1} → statement M
+write-each-spec =
+    tie.close
+    (tie.spec
+    Inv-loop
+    μ-loop
+    count-requires
+    loop-holds
+    array-read-write-combined
+    mul-write-combined
+    index-1-write-combined
+    write-combined-requires
+    add-i
+    loop-less
+    loop-again
+    returns)
