@@ -158,8 +158,8 @@ extern "C" {
 /** The logger place of a blank timestamp; its tick is 0. */
 #define RATHUNXA_BLANK_LOGGER 255
 /** The stack bytes that rathunxa_work() may take. Measured and not proved: on
- *  x86-64 the deepest call took about 74,000. */
-#define RATHUNXA_STACK 98304
+ *  x86-64 the deepest call took about 24,000. */
+#define RATHUNXA_STACK 32768
 /** @} */
 
 /** @defgroup numbers Answer numbers

@@ -28,8 +28,9 @@ use Rattle.passages.specs.Reader.{readPassage}
 use Rattle.detections.specs.Findings.{findingBytes}
 use Rattle.detections.specs.Views.{findingOf}
 use Rattle.emissions.specs.Emissions.{emitted, emittedAll, numberOf}
-use Rattle.operators.specs.Turns.{andArrived, arrived, findingsOf, joinsBy, metBy, nodeTurn, orArrived, restOf, seqLeft, seqRight, waited}
-use Rattle.detector.specs.Progress.{arrivalsOf, closed, eventStep, nodeStep, numbersByPlace, runOf, start, turnAt, turned}
+use Rattle.arrivals.specs.Arrivals.{andArrived, findingsOf, joinsBy, metBy, restOf, waited}
+use Rattle.operators.specs.Turns.{arrived, nodeTurn, orArrived, seqLeft, seqRight}
+use Rattle.progress.specs.Progress.{arrivalsOf, closed, eventStep, nodeStep, numbersByPlace, runOf, start, turnAt, turned}
 use Rattle.gateway.specs.Working.{worked}
 use Rattle.bridge_examples.specs.Examples.{eachWith, holds, limits, operators, sameNumbers, sameWork, sevens, table}
 

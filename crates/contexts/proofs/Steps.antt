@@ -1,24 +1,26 @@
 -- What each function's steps come to.
-use mathlib.Core.Path.{_≡_, refl, sym, ap, _∙_}
-use mathlib.Core.Bool.{Bool, true, false, not, _&&_}
+use mathlib.Core.Path.{_≡_, refl, sym, ap, ap₂, _∙_}
+use mathlib.Core.Bool.{Bool, true, false, not, _&&_, and-false}
 use mathlib.Core.List.{List, [], _∷_, map, zipWith}
-use Prim.Native.Nat.{ℕ, _+_, _≤_, _<_}
+use Prim.Native.Nat.{ℕ, zero, suc, _+_, _≤_, _<_}
 use native.Mathlib.Omega.{arith}
 use borrow.Author.Tests.{eq-eqb, ne-eqb, not-true, not-false}
-use lib.ListN.{length, drop, getD, replicate, set, take, getD-replicate, length-map, length-replicate}
+use lib.Bits.{bitAnd, bitXor}
+use lib.ListN.{length, drop, getD, replicate, set, take, length-map}
 use Rattle.sequences.specs.Choice.{pick}
 use Rattle.sequences.specs.Loops.{fold}
 use Rattle.sequences.specs.Marks.{marked, padded}
 use Rattle.sequences.specs.Select.{any}
 use Rattle.sequences.proofs.Arrays.{getD-zip, length-zip}
 use Rattle.sequences.proofs.Parts.{getD-map}
-use Rattle.sequences.proofs.Marks.{any-marked-no, any-marked-yes, fold-marked, padded-end, padded-full, padded-turn}
+use Rattle.sequences.proofs.Marks.{any-marked-no, any-marked-yes, fold-marked, padded-start}
 use Rattle.sequences.proofs.Select.{any-none}
 use Rattle.occurrences.specs.declared.Occurrence.{Occurrence}
 use Rattle.occurrences.specs.Occurrences.{blank, isBefore}
 use Rattle.occurrences.specs.Packed.{held, occurrenceOf}
+use Rattle.waiting_lists.specs.Marks.{marksOf}
+use Rattle.waiting_lists.proofs.Marks.{length-marks, marks-and, marks-less, marks-turn, padded-next}
 use Rattle.waiting_lists.proofs.Places.{waiting-at}
-use Rattle.contexts.specs.declared.Choice.{Choice}
 use Rattle.contexts.specs.declared.Row.{Row}
 use Rattle.contexts.specs.Choice.{andCandidates, chosen, removedOf, removes, takenOf, takes}
 use Rattle.contexts.specs.Steps.{barsOf}
@@ -84,47 +86,53 @@ takes-unbarred earliest ratio candidates w = refl
 takes-unbarred every ratio candidates w = rw (any-none (λ c. false) candidates (λ c m. refl))
 
 module _ (mark : Bool) (code ratio : ℕ) (candidates : List Occurrence) (w : Occurrence) (on : not mark ≡ false) where
-  pub taken-every : 2 ≤ code → true ≡ (mark && takes (takesOf code) ratio candidates w)
-  unfolding takes
-  taken-every h = rw (not-false mark on, code-every code (λ e. omega (arith, e)) (λ e. omega (arith, e)))
-
   pub taken-unbarred : (r : Bool) → r ≡ any (barsOf (takesOf code) ratio w) candidates → not r ≡ (mark && takes (takesOf code) ratio candidates w)
   taken-unbarred r e = rw (not-false mark on, e) (takes-unbarred (takesOf code) ratio candidates w)
 
 -- ---- marks that a loop fills, for 16 places
-module _ (row : List (List ℕ)) (n : ℕ) (m : List Bool) (i : ℕ) (in-list : i < length (held row n)) (few : length (held row n) ≤ 16) where
+module _ (ticks : List ℕ) (row : List (List ℕ)) (n : ℕ) (m : List Bool) (i : ℕ) (in-list : i < length (held ticks row n)) (few : length (held ticks row n) ≤ 16) where
   abbrev waiting : List Occurrence
-  waiting = held row n
+  waiting = held ticks row n
 
   -- a test of each
-  pub tested-turn : (p : Occurrence → Bool) (v : Bool) → m ≡ padded 16 (take i (map p waiting)) → v ≡ p (occurrenceOf (getD row i [])) → set m i v ≡ padded 16 (take (i + 1) (map p waiting))
-  tested-turn p v e f =
-      padded-turn 16 (map p waiting) m i v (omega (arith, length-map waiting p)) (omega (arith, length-map waiting p)) e (f ∙ ap p (waiting-at row n i in-list) ∙ sym (getD-map p waiting i blank false in-list))
+  pub tested-turn : (p : Occurrence → Bool) (r : List Bool) (v : Bool) → m ≡ padded 16 (take i (map p waiting)) → v ≡ p (occurrenceOf ticks (getD row i [])) → r ≡ pick v (set m i true) m
+      → r ≡ padded 16 (take (i + 1) (map p waiting))
+  tested-turn p r v e f g =
+      marks-turn (map p waiting) m r i v (omega (arith, length-map waiting p)) (omega (arith, length-map waiting p)) e (f ∙ ap p (waiting-at ticks row n i in-list) ∙ sym (getD-map p waiting i blank false in-list)) g
 
   -- a test of each with its mark
-  pub zipped-turn : (f : Occurrence → Bool → Bool) (marks : List Bool) (v : Bool) → length marks ≡ 16 → m ≡ padded 16 (take i (zipWith f waiting marks))
-      → v ≡ f (occurrenceOf (getD row i [])) (getD marks i false) → set m i v ≡ padded 16 (take (i + 1) (zipWith f waiting marks))
-  zipped-turn f marks v h e g =
+  pub zipped-turn : (f : Occurrence → Bool → Bool) (marks r : List Bool) (mark v : Bool) → length marks ≡ 16 → m ≡ padded 16 (take i (zipWith f waiting marks))
+      → mark ≡ getD marks i false → v ≡ f (occurrenceOf ticks (getD row i [])) mark → r ≡ pick v (set m i true) m → r ≡ padded 16 (take (i + 1) (zipWith f waiting marks))
+  zipped-turn f marks r mark v h e is g t =
       let k : length (zipWith f waiting marks) ≡ length waiting = length-zip f waiting marks (omega arith) in
-      padded-turn 16 (zipWith f waiting marks) m i v (omega arith) (omega arith) e (g ∙ ap (λ w. f w (getD marks i false)) (waiting-at row n i in-list) ∙ sym (getD-zip f waiting marks i blank false false in-list (omega arith)))
+      marks-turn (zipWith f waiting marks) m r i v (omega arith) (omega arith) e (g ∙ ap₂ f (waiting-at ticks row n i in-list) is ∙ sym (getD-zip f waiting marks i blank false false in-list (omega arith))) t
 
 -- ---- a loop over the places of a list: what the code reads at a place is what waits there
-module _ (row : List (List ℕ)) (n : ℕ) (m : List Bool) (i : ℕ) (in-l : i < length (held row n)) (in-m : i < length m) where
-  module _ (p : Occurrence → Bool) (r : Bool) (told : r ≡ (getD m i false && p (occurrenceOf (getD row i [])))) where
-    told-here : (getD m i false && p (getD (held row n) i blank)) ≡ r
-    told-here = ap (λ w. getD m i false && p w) (sym (waiting-at row n i in-l)) ∙ sym told
+module _ (ticks : List ℕ) (row : List (List ℕ)) (n : ℕ) (m : List Bool) (i : ℕ) (in-l : i < length (held ticks row n)) (in-m : i < length m) where
+  module _ (p : Occurrence → Bool) (mark r : Bool) (is : mark ≡ getD m i false) (told : r ≡ (mark && p (occurrenceOf ticks (getD row i [])))) where
+    told-here : (getD m i false && p (getD (held ticks row n) i blank)) ≡ r
+    told-here = ap (λ w. getD m i false && p w) (sym (waiting-at ticks row n i in-l)) ∙ sym (told ∙ ap (λ b. b && p (occurrenceOf ticks (getD row i []))) is)
 
-    pub found-here : r ≡ true → any p (marked (drop i (held row n)) (drop i m)) ≡ true
-    found-here e = any-marked-yes (held row n) m i blank in-l in-m p (told-here ∙ e)
+    pub found-here : r ≡ true → any p (marked (drop i (held ticks row n)) (drop i m)) ≡ true
+    found-here e = any-marked-yes (held ticks row n) m i blank in-l in-m p (told-here ∙ e)
 
-    pub not-here : r ≡ false → any p (marked (drop i (held row n)) (drop i m)) ≡ any p (marked (drop (i + 1) (held row n)) (drop (i + 1) m))
-    not-here e = any-marked-no (held row n) m i blank in-l in-m p (told-here ∙ e)
+    pub not-here : r ≡ false → any p (marked (drop i (held ticks row n)) (drop i m)) ≡ any p (marked (drop (i + 1) (held ticks row n)) (drop (i + 1) m))
+    not-here e = any-marked-no (held ticks row n) m i blank in-l in-m p (told-here ∙ e)
 
-  pub combined-here : {S : Type 0} (f : S → Occurrence → S) (s r : S) → r ≡ pick (getD m i false) (f s (occurrenceOf (getD row i []))) s
-      → fold f (marked (drop (i + 1) (held row n)) (drop (i + 1) m)) r ≡ fold f (marked (drop i (held row n)) (drop i m)) s
-  combined-here f s r e =
-      ap (fold f (marked (drop (i + 1) (held row n)) (drop (i + 1) m))) (e ∙ ap (λ w. pick (getD m i false) (f s w) s) (waiting-at row n i in-l))
-      ∙ fold-marked (held row n) m i blank in-l in-m f s
+  module _ {S : Type 0} (f : S → Occurrence → S) (s : S) where
+    combined-here : (r : S) → r ≡ pick (getD m i false) (f s (occurrenceOf ticks (getD row i []))) s
+        → fold f (marked (drop (i + 1) (held ticks row n)) (drop (i + 1) m)) r ≡ fold f (marked (drop i (held ticks row n)) (drop i m)) s
+    combined-here r e =
+        ap (fold f (marked (drop (i + 1) (held ticks row n)) (drop (i + 1) m))) (e ∙ ap (λ w. pick (getD m i false) (f s w) s) (waiting-at ticks row n i in-l))
+        ∙ fold-marked (held ticks row n) m i blank in-l in-m f s
+
+    pub combined-yes : (r : S) → getD m i false ≡ true → r ≡ f s (occurrenceOf ticks (getD row i []))
+        → fold f (marked (drop (i + 1) (held ticks row n)) (drop (i + 1) m)) r ≡ fold f (marked (drop i (held ticks row n)) (drop i m)) s
+    combined-yes r y e = combined-here r (rw y e)
+
+    pub combined-no : getD m i false ≡ false
+        → fold f (marked (drop (i + 1) (held ticks row n)) (drop (i + 1) m)) s ≡ fold f (marked (drop i (held ticks row n)) (drop i m)) s
+    combined-no n = combined-here s (rw n)
 
 -- as many marks as wait
 pub all-marks : (n : ℕ) (waiting : List Occurrence) → n ≡ length waiting → padded 16 (replicate n true) ≡ andCandidates waiting
@@ -135,47 +143,68 @@ all-marks n waiting e = rw e (ap (padded 16) (each-true waiting))
     each-true [] = refl
     each-true (w ∷ l) = ap (λ m. true ∷ m) (each-true l)
 
-pub all-turn : (n i : ℕ) (m : List Bool) → i < n → n ≤ 16 → m ≡ padded 16 (take i (replicate n true)) → set m i true ≡ padded 16 (take (i + 1) (replicate n true))
-all-turn n i m h k e =
-    let l : length (replicate n true) ≡ n = length-replicate n true in
-    padded-turn 16 (replicate n true) m i true (omega arith) (omega arith) e (sym (getD-replicate n i true false h))
+-- every candidate that waits is taken
+none-taken : (k : ℕ) (m : List Bool) → length m ≡ k → zipWith _&&_ m (replicate k false) ≡ replicate k false
+unfolding zipWith
+none-taken zero [] h = refl
+none-taken zero (b ∷ m) h = absurd (omega arith)
+none-taken (suc k) [] h = absurd (omega arith)
+none-taken (suc k) (b ∷ m) h = rw (and-false b) (ap (λ r. false ∷ r) (none-taken k m (omega arith)))
 
--- two arrays of 16 marks side by side
-module _ (f : Bool → Bool → Bool) (a b : List Bool) (p : length a ≡ 16) (q : length b ≡ 16) where
-  both-long : length (zipWith f a b) ≡ 16
-  both-long = length-zip f a b (omega arith) ∙ p
+all-taken : {A : Type 0} (n : ℕ) (l : List A) (m : List Bool) → length m ≡ n → length l ≤ n
+    → zipWith _&&_ m (padded n (map (λ w. true) l)) ≡ padded n (zipWith (λ w c. c && true) l m)
+unfolding zipWith
+all-taken n [] m h k = ap (zipWith _&&_ m) (sym (padded-start n)) ∙ none-taken n m h ∙ padded-start n
+all-taken n (a ∷ l) [] h k = absurd (omega arith)
+all-taken zero (a ∷ l) (b ∷ m) h k = absurd (omega arith)
+all-taken (suc n) (a ∷ l) (b ∷ m) h k =
+    ap (zipWith _&&_ (b ∷ m)) (padded-next n true (map (λ w. true) l))
+    ∙ ap (λ r. (b && true) ∷ r) (all-taken n l m (omega arith) (omega arith))
+    ∙ sym (padded-next n (b && true) (zipWith (λ w c. c && true) l m))
 
-  pub both-turn : (m : List Bool) (i : ℕ) (v : Bool) → i < 16 → m ≡ padded 16 (take i (zipWith f a b)) → v ≡ f (getD a i false) (getD b i false) → set m i v ≡ padded 16 (take (i + 1) (zipWith f a b))
-  both-turn m i v h e g =
-      let n : length (zipWith f a b) ≡ 16 = both-long in
-      padded-turn 16 (zipWith f a b) m i v (omega arith) (omega arith) e (g ∙ sym (getD-zip f a b i false false false (omega arith) (omega arith)))
-
-  pub both-end : (m : List Bool) (i : ℕ) → 16 ≤ i → m ≡ padded 16 (take i (zipWith f a b)) → m ≡ zipWith f a b
-  both-end m i h e = let n : length (zipWith f a b) ≡ 16 = both-long in padded-end 16 (zipWith f a b) m i (omega arith) e ∙ padded-full 16 (zipWith f a b) n
+pub every-taken : (code ratio : ℕ) (waiting : List Occurrence) (c r : ℕ) → 2 ≤ code → length waiting ≤ 16 → marksOf r ≡ andCandidates waiting
+    → marksOf (bitAnd c r) ≡ takenOf (takesOf code) ratio waiting (marksOf c)
+unfolding andCandidates takenOf takes
+every-taken code ratio waiting c r h few e =
+    rw (code-every code (λ z. omega (arith, z)) (λ z. omega (arith, z)))
+    (marks-and c r ∙ ap (zipWith _&&_ (marksOf c)) e ∙ all-taken 16 waiting (marksOf c) (length-marks c) few)
 
 -- ---- the choice
-module _ (code : ℕ) (c t r : Bool) where
-  pub removed-untaken : code ≡ 0 → c ≡ true → r ≡ not t → r ≡ removes (removesOf code) c t
-  unfolding removes
-  removed-untaken e y f = rw (code-untaken code e, y) f
+-- one of two rows of marks
+zip-left : (a b : List Bool) → length a ≡ length b → zipWith (λ x y. x) a b ≡ a
+unfolding zipWith
+zip-left [] b e = refl
+zip-left (x ∷ a) [] e = absurd (omega arith)
+zip-left (x ∷ a) (y ∷ b) e = ap (λ r. x ∷ r) (zip-left a b (omega arith))
 
-  pub removed-other : code ≡ 0 → c ≡ false → r ≡ false → r ≡ removes (removesOf code) c t
-  unfolding removes
-  removed-other e n f = rw (code-untaken code e, n) f
+zip-right : (a b : List Bool) → length a ≡ length b → zipWith (λ x y. y) a b ≡ b
+unfolding zipWith
+zip-right [] [] e = refl
+zip-right [] (y ∷ b) e = absurd (omega arith)
+zip-right (x ∷ a) [] e = absurd (omega arith)
+zip-right (x ∷ a) (y ∷ b) e = ap (λ r. y ∷ r) (zip-right a b (omega arith))
 
-  pub removed-taken : (code ≡ 0 → ⊥) → code ≡ 1 → r ≡ t → r ≡ removes (removesOf code) c t
-  unfolding removes
-  removed-taken n e f = rw (code-taken code n e) f
+module _ (code c t : ℕ) where
+  as-long : length (marksOf c) ≡ length (marksOf t)
+  as-long = length-marks c ∙ sym (length-marks t)
 
-  pub removed-all : (code ≡ 0 → ⊥) → (code ≡ 1 → ⊥) → r ≡ c → r ≡ removes (removesOf code) c t
-  unfolding removes
-  removed-all n o f = rw (code-all code n o) f
+  pub removed-untaken : code ≡ 0 → marksOf (bitXor c (bitAnd c t)) ≡ removedOf (removesOf code) (marksOf c) (marksOf t)
+  unfolding removedOf removes
+  removed-untaken e = rw (code-untaken code e) (marks-less c t)
+
+  pub removed-taken : (code ≡ 0 → ⊥) → code ≡ 1 → marksOf t ≡ removedOf (removesOf code) (marksOf c) (marksOf t)
+  unfolding removedOf removes
+  removed-taken n e = rw (code-taken code n e) (sym (zip-right (marksOf c) (marksOf t) as-long))
+
+  pub removed-all : (code ≡ 0 → ⊥) → (code ≡ 1 → ⊥) → marksOf c ≡ removedOf (removesOf code) (marksOf c) (marksOf t)
+  unfolding removedOf removes
+  removed-all n o = rw (code-all code n o) (sym (zip-left (marksOf c) (marksOf t) as-long))
 
 pub chosen-is : (ratio : ℕ) (x : Context) (row : Row) (waiting : List Occurrence) (candidates t r : List Bool) → contextOf row ≡ x
     → t ≡ takenOf (takesOf (row .taken)) ratio waiting candidates → r ≡ removedOf (removesOf (row .removed)) candidates t
-    → _≡_ {A = Choice} (record { candidates = candidates; taken = t; removed = r }) (chosen x ratio waiting candidates)
+    → (t ≡ chosen x ratio waiting candidates .taken) × (r ≡ chosen x ratio waiting candidates .removed)
 unfolding chosen contextOf
-chosen-is ratio x row waiting candidates t r e f g = rw (← e) (λ i. record { candidates = candidates; taken = f i; removed = (g ∙ ap (removedOf (removesOf (row .removed)) candidates) f) i })
+chosen-is ratio x row waiting candidates t r e f g = rw (← e) (f, g ∙ ap (removedOf (removesOf (row .removed)) candidates) f)
 
 -- ---- what is made
 pub finds-each : (x : Context) (row : Row) → contextOf row ≡ x → row .findings ≡ 0 → x .finds ≡ each

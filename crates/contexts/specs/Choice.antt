@@ -6,7 +6,6 @@ use Rattle.sequences.specs.Marks.{marked, padded}
 use Rattle.sequences.specs.Select.{any}
 use Rattle.occurrences.specs.declared.Occurrence.{Occurrence}
 use Rattle.occurrences.specs.Occurrences.{isBefore}
-use Rattle.contexts.specs.declared.Choice.{Choice}
 use Rattle.contexts.specs.Table.{Taken, latest, earliest, every, Removed, untaken, taken, all, Context}
 
 -- SEQ: the candidates are the waiting occurrences whose stamp is before the arrival's
@@ -38,10 +37,13 @@ removes all candidate isTaken = candidate
 unfoldable pub removedOf : Removed → List Bool → List Bool → List Bool
 removedOf x candidates marks = zipWith (removes x) candidates marks
 
--- the choice that a row of the table makes
-unfoldable pub chosen : Context → ℕ → List Occurrence → List Bool → Choice
+-- the choice that a row of the table makes: the marks of those taken and of those removed
+pub record Chosen : Type 0 where
+  pub taken : List Bool
+  pub removed : List Bool
+
+unfoldable pub chosen : Context → ℕ → List Occurrence → List Bool → Chosen
 chosen row ratio waiting candidates = record {
-  candidates = candidates;
   taken = takenOf (row .takes) ratio waiting candidates;
   removed = removedOf (row .removes) candidates (takenOf (row .takes) ratio waiting candidates);
 }

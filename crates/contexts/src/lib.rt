@@ -4,14 +4,14 @@ ghost use mathlib.Core.List.{List};
 ghost use mathlib.Core.Path.{_≡_};
 ghost use Prim.Native.Nat.{min, _<_};
 ghost use lib.ListN.{getD, length};
-ghost use Rattle.sequences.specs.Choice.{pick};
 ghost use Rattle.sequences.specs.Loops.{fold};
 ghost use Rattle.sequences.specs.Marks.{marked};
 ghost use Rattle.sequences.specs.Select.{any};
 ghost use Rattle.occurrences.specs.declared.Occurrence.{Occurrence};
 ghost use Rattle.occurrences.specs.Combination.{combinedOf};
 ghost use Rattle.occurrences.specs.Packed.{held, occurrenceOf};
-ghost use Rattle.contexts.specs.Choice.{andCandidates, chosen, removedOf, removes, seqCandidates, takenOf, takes};
+ghost use Rattle.waiting_lists.specs.Marks.{marksOf};
+ghost use Rattle.contexts.specs.Choice.{andCandidates, chosen, removedOf, seqCandidates, takenOf, takes};
 ghost use Rattle.contexts.specs.Steps.{barsOf};
 ghost use Rattle.contexts.specs.Table.{contextOf, each, recent, removesOf, rowOf, table, takesOf, together};
 
@@ -96,56 +96,50 @@ pub fn row_of(context: u64) -> Row
 
 // SEQ: those whose timestamp is before the arrival's.
 pub fn before_arrival(
-    list: &[[u64; 10]; 16],
+    list: &[[u64; 3]; 16],
     waiting: usize,
-    o: &[u64; 10],
+    o: &[u64; 3],
+    ticks: &[u64; 256],
     ratio: u64,
-) -> [bool; 16]
-    ensures { λ r. ⌜ r ≡ seqCandidates ratio (held (now (list .entry)) waiting) (occurrenceOf (now (o .entry))) ⌝ }
+) -> u64
+    ensures { λ r. ⌜ marksOf r ≡ seqCandidates ratio (held (now (ticks .entry)) (now (list .entry)) waiting) (occurrenceOf (now (ticks .entry)) (now (o .entry))) ⌝ }
 {
     let n = waiting_lists::count_in(list, waiting);
-    let mut marks = [false; 16];
+    let mut marks: u64 = 0;
     let mut i: usize = 0;
     while i < n {
-        marks[i] = occurrences::before(&list[i], o, ratio);
+        marks = waiting_lists::with_mark(marks, i, occurrences::before(&list[i], o, ticks, ratio));
         i = i + 1;
     }
     marks
 }
 
 // AND: all that wait on the other side.
-pub fn all_waiting(waiting: usize) -> [bool; 16]
-    ensures { λ r. ⌜ ((l : List Occurrence) → length l ≡ min waiting 16 → r ≡ andCandidates l) ⌝ }
+pub fn all_waiting(waiting: usize) -> u64
+    ensures { λ r. ⌜ ((l : List Occurrence) → length l ≡ min waiting 16 → marksOf r ≡ andCandidates l) ⌝ }
 {
     let n = waiting_lists::count(waiting);
-    let mut marks = [false; 16];
-    let mut i: usize = 0;
-    while i < n {
-        marks[i] = true;
-        i = i + 1;
-    }
-    marks
+    (1 << n) - 1
 }
 
 // ---- the choice
 
-// One bool for each place of the list.
+// Which places of the list are taken, and which are removed.
 pub struct Choice {
-    pub candidates: [bool; 16],
-    pub taken: [bool; 16],
-    pub removed: [bool; 16],
+    pub taken: u64,
+    pub removed: u64,
 }
 
 // Whether c, where it is a candidate, keeps w from being taken.
-fn bars(mark: bool, rule: u64, w: &[u64; 10], c: &[u64; 10], ratio: u64) -> bool
-    ensures { λ r. ⌜ r ≡ (mark && barsOf (takesOf rule) ratio (occurrenceOf (now (w .entry))) (occurrenceOf (now (c .entry)))) ⌝ }
+fn bars(mark: bool, rule: u64, w: &[u64; 3], c: &[u64; 3], ticks: &[u64; 256], ratio: u64) -> bool
+    ensures { λ r. ⌜ r ≡ (mark && barsOf (takesOf rule) ratio (occurrenceOf (now (ticks .entry)) (now (w .entry))) (occurrenceOf (now (ticks .entry)) (now (c .entry)))) ⌝ }
 {
     if !mark {
         false
     } else if rule == Row::LATEST {
-        occurrences::before(w, c, ratio)
+        occurrences::before(w, c, ticks, ratio)
     } else if rule == Row::EARLIEST {
-        occurrences::before(c, w, ratio)
+        occurrences::before(c, w, ticks, ratio)
     } else {
         false
     }
@@ -154,18 +148,26 @@ fn bars(mark: bool, rule: u64, w: &[u64; 10], c: &[u64; 10], ratio: u64) -> bool
 // Whether some candidate does.
 fn barred(
     rule: u64,
-    w: &[u64; 10],
-    list: &[[u64; 10]; 16],
+    w: &[u64; 3],
+    list: &[[u64; 3]; 16],
     waiting: usize,
-    candidates: [bool; 16],
+    candidates: u64,
+    ticks: &[u64; 256],
     ratio: u64,
 ) -> bool
-    ensures { λ r. ⌜ r ≡ any (barsOf (takesOf rule) ratio (occurrenceOf (now (w .entry)))) (marked (held (now (list .entry)) waiting) candidates) ⌝ }
+    ensures { λ r. ⌜ r ≡ any (barsOf (takesOf rule) ratio (occurrenceOf (now (ticks .entry)) (now (w .entry)))) (marked (held (now (ticks .entry)) (now (list .entry)) waiting) (marksOf candidates)) ⌝ }
 {
     let n = waiting_lists::count_in(list, waiting);
     let mut j: usize = 0;
     while j < n {
-        if bars(candidates[j], rule, w, &list[j], ratio) {
+        if bars(
+            waiting_lists::is_marked(candidates, j),
+            rule,
+            w,
+            &list[j],
+            ticks,
+            ratio,
+        ) {
             return true;
         }
         j = j + 1;
@@ -177,92 +179,85 @@ fn barred(
 fn is_taken(
     mark: bool,
     rule: u64,
-    w: &[u64; 10],
-    list: &[[u64; 10]; 16],
+    w: &[u64; 3],
+    list: &[[u64; 3]; 16],
     waiting: usize,
-    candidates: [bool; 16],
+    candidates: u64,
+    ticks: &[u64; 256],
     ratio: u64,
 ) -> bool
-    ensures { λ r. ⌜ r ≡ (mark && takes (takesOf rule) ratio (marked (held (now (list .entry)) waiting) candidates) (occurrenceOf (now (w .entry)))) ⌝ }
+    ensures { λ r. ⌜ r ≡ (mark && takes (takesOf rule) ratio (marked (held (now (ticks .entry)) (now (list .entry)) waiting) (marksOf candidates)) (occurrenceOf (now (ticks .entry)) (now (w .entry)))) ⌝ }
 {
     if !mark {
         false
-    } else if Row::EVERY <= rule {
-        true
     } else {
-        !barred(rule, w, list, waiting, candidates, ratio)
+        !barred(rule, w, list, waiting, candidates, ticks, ratio)
     }
 }
 
 // Those that a rule takes of the candidates.
 fn taken_by(
     rule: u64,
-    list: &[[u64; 10]; 16],
+    list: &[[u64; 3]; 16],
     waiting: usize,
-    candidates: [bool; 16],
+    candidates: u64,
+    ticks: &[u64; 256],
     ratio: u64,
-) -> [bool; 16]
-    ensures { λ r. ⌜ r ≡ takenOf (takesOf rule) ratio (held (now (list .entry)) waiting) candidates ⌝ }
+) -> u64
+    ensures { λ r. ⌜ marksOf r ≡ takenOf (takesOf rule) ratio (held (now (ticks .entry)) (now (list .entry)) waiting) (marksOf candidates) ⌝ }
 {
     let n = waiting_lists::count_in(list, waiting);
-    let mut marks = [false; 16];
+    if Row::EVERY <= rule {
+        return candidates & all_waiting(n);
+    }
+    let mut marks: u64 = 0;
     let mut i: usize = 0;
     while i < n {
-        marks[i] = is_taken(
-            candidates[i],
+        let mark = waiting_lists::is_marked(candidates, i);
+        let taken = is_taken(
+            mark,
             rule,
             &list[i],
             list,
             waiting,
             candidates,
+            ticks,
             ratio,
         );
+        marks = waiting_lists::with_mark(marks, i, taken);
         i = i + 1;
     }
     marks
-}
-
-// Whether a place is removed, which may be a candidate, and taken.
-fn is_removed(rule: u64, candidate: bool, taken: bool) -> bool
-    ensures { λ r. ⌜ r ≡ removes (removesOf rule) candidate taken ⌝ }
-{
-    if rule == Row::UNTAKEN {
-        if candidate { !taken } else { false }
-    } else if rule == Row::TAKEN {
-        taken
-    } else {
-        candidate
-    }
 }
 
 // Those that a rule removes.
-fn removed_by(rule: u64, candidates: [bool; 16], taken: [bool; 16]) -> [bool; 16]
-    ensures { λ r. ⌜ r ≡ removedOf (removesOf rule) candidates taken ⌝ }
+fn removed_by(rule: u64, candidates: u64, taken: u64) -> u64
+    ensures { λ r. ⌜ marksOf r ≡ removedOf (removesOf rule) (marksOf candidates) (marksOf taken) ⌝ }
 {
-    let mut marks = [false; 16];
-    let mut i: usize = 0;
-    while i < 16 {
-        marks[i] = is_removed(rule, candidates[i], taken[i]);
-        i = i + 1;
+    if rule == Row::UNTAKEN {
+        candidates ^ (candidates & taken)
+    } else if rule == Row::TAKEN {
+        taken
+    } else {
+        candidates
     }
-    marks
 }
 
 // What a context takes and removes of the candidates of a waiting list.
 pub fn choose(
     context: u64,
-    list: &[[u64; 10]; 16],
+    list: &[[u64; 3]; 16],
     waiting: usize,
-    candidates: [bool; 16],
+    candidates: u64,
+    ticks: &[u64; 256],
     ratio: u64,
 ) -> Choice
-    ensures { λ r. ⌜ r ≡ chosen (rowOf context) ratio (held (now (list .entry)) waiting) candidates ⌝ }
+    ensures { λ r. ⌜ (marksOf (r .taken) ≡ chosen (rowOf context) ratio (held (now (ticks .entry)) (now (list .entry)) waiting) (marksOf candidates) .taken) × (marksOf (r .removed) ≡ chosen (rowOf context) ratio (held (now (ticks .entry)) (now (list .entry)) waiting) (marksOf candidates) .removed) ⌝ }
 {
     let row = row_of(context);
-    let taken = taken_by(row.taken, list, waiting, candidates, ratio);
+    let taken = taken_by(row.taken, list, waiting, candidates, ticks, ratio);
     let removed = removed_by(row.removed, candidates, taken);
     Choice {
-        candidates: candidates,
         taken: taken,
         removed: removed,
     }
@@ -278,33 +273,27 @@ pub fn makes_each(context: u64) -> bool
     row.findings == Row::EACH
 }
 
-// The arrival combined with w, where that is taken.
-fn combined_if(mark: bool, o: &[u64; 10], w: &[u64; 10], ratio: u64) -> [u64; 10]
-    ensures { λ r. ⌜ occurrenceOf r ≡ pick mark (combinedOf ratio (occurrenceOf (now (o .entry))) (occurrenceOf (now (w .entry)))) (occurrenceOf (now (o .entry))) ⌝ }
-{
-    if mark {
-        occurrences::combined(o, w, ratio)
-    } else {
-        *o
-    }
-}
-
 // The arrival combined with all taken, in waiting order.
 pub fn all_combined(
-    list: &[[u64; 10]; 16],
+    list: &[[u64; 3]; 16],
     waiting: usize,
-    taken: [bool; 16],
-    o: &[u64; 10],
+    taken: u64,
+    o: &[u64; 3],
+    ticks: &[u64; 256],
     ratio: u64,
-) -> [u64; 10]
-    ensures { λ r. ⌜ occurrenceOf r ≡ fold (combinedOf ratio) (marked (held (now (list .entry)) waiting) taken) (occurrenceOf (now (o .entry))) ⌝ }
+) -> [u64; 3]
+    requires { ⌜ getD (now ticks) 0 0 ≡ 0 ⌝ }
+    ensures { λ r. ⌜ occurrenceOf (now (ticks .entry)) r ≡ fold (combinedOf ratio) (marked (held (now (ticks .entry)) (now (list .entry)) waiting) (marksOf taken)) (occurrenceOf (now (ticks .entry)) (now (o .entry))) ⌝ }
 {
     let n = waiting_lists::count_in(list, waiting);
     let mut all = *o;
     let mut i: usize = 0;
     while i < n {
-        all = combined_if(taken[i], &all, &list[i], ratio);
-        i = i + 1;
+        let next = i + 1;
+        if waiting_lists::is_marked(taken, i) {
+            all = occurrences::combined(&all, &list[i], ticks, ratio);
+        }
+        i = next;
     }
     all
 }

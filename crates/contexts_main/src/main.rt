@@ -1,30 +1,53 @@
 // Runs append, remove and the four contexts, and prints what is made and what is left.
 use event_sets::EventSet;
-use timestamps::LocalTick;
+ghost use mathlib.Core.Path.{_≡_};
 ghost use Prim.Native.Nat.{_<_};
+ghost use lib.ListN.{getD};
 
 const RATIO: u64 = 10;
 
-fn event(logger: u8, tick: u64, number: usize) -> [u64; 10]
-    requires { ⌜ tick < 1000 ⌝ }
+// The table has at an event's number plus one its tick plus one, and 0 at place 0.
+fn note(ticks: &mut [u64; 256], tick: u64, number: usize)
+    requires { ⌜ (tick < 1000) × (number < 128) × (getD (now ticks) 0 0 ≡ 0) ⌝ }
+    ensures { λ _. ⌜ getD (now (ticks .exit)) 0 0 ≡ 0 ⌝ }
 {
-    let t = LocalTick(tick);
-    occurrences::of_event(logger, t, number)
+    // The table as a slice is what tells the proof its length.
+    let places = ticks[..].len();
+    ticks[number + 1] = tick + 1;
 }
 
-fn add(list: &mut [[u64; 10]; 16], n: usize, logger: u8, tick: u64, number: usize) -> usize
-    requires { ⌜ tick < 1000 ⌝ }
+fn event(ticks: &mut [u64; 256], logger: u8, tick: u64, number: usize) -> [u64; 3]
+    requires { ⌜ (tick < 1000) × (number < 128) × (getD (now ticks) 0 0 ≡ 0) ⌝ }
+    ensures { λ _. ⌜ getD (now (ticks .exit)) 0 0 ≡ 0 ⌝ }
 {
-    let o = event(logger, tick, number);
+    note(ticks, tick, number);
+    occurrences::of_event(logger, number)
+}
+
+fn add(
+    list: &mut [[u64; 3]; 16],
+    ticks: &mut [u64; 256],
+    n: usize,
+    logger: u8,
+    tick: u64,
+    number: usize,
+) -> usize
+    requires { ⌜ (tick < 1000) × (number < 128) × (getD (now ticks) 0 0 ≡ 0) ⌝ }
+    ensures { λ _. ⌜ getD (now (ticks .exit)) 0 0 ≡ 0 ⌝ }
+{
+    let o = event(ticks, logger, tick, number);
     waiting_lists::append_to(list, n, &o)
 }
 
 // Four wait: logger 1 at 80 and 95, logger 3 at 100, logger 2 at 300.
-fn wait_four(list: &mut [[u64; 10]; 16]) -> usize {
-    let a = add(list, 0, 1, 80, 0);
-    let b = add(list, a, 1, 95, 1);
-    let c = add(list, b, 3, 100, 3);
-    add(list, c, 2, 300, 4)
+fn wait_four(list: &mut [[u64; 3]; 16], ticks: &mut [u64; 256]) -> usize
+    requires { ⌜ getD (now ticks) 0 0 ≡ 0 ⌝ }
+    ensures { λ _. ⌜ getD (now (ticks .exit)) 0 0 ≡ 0 ⌝ }
+{
+    let a = add(list, ticks, 0, 1, 80, 0);
+    let b = add(list, ticks, a, 1, 95, 1);
+    let c = add(list, ticks, b, 3, 100, 3);
+    add(list, ticks, c, 2, 300, 4)
 }
 
 fn write(text: &[u8]) {
@@ -42,8 +65,8 @@ fn write_element(set: EventSet, number: usize) {
     }
 }
 
-fn write_events(o: &[u64; 10]) {
-    let w = occurrences::unpacked(o);
+fn write_events(o: &[u64; 3], ticks: &[u64; 256]) {
+    let w = occurrences::unpacked(o, ticks);
     let set = w.events;
     let mut i: usize = 0;
     while i < 128 {
@@ -53,124 +76,147 @@ fn write_events(o: &[u64; 10]) {
     write(b",");
 }
 
-fn write_waiting(list: &[[u64; 10]; 16], waiting: usize) {
+fn write_waiting(list: &[[u64; 3]; 16], waiting: usize, ticks: &[u64; 256]) {
     let n = waiting_lists::count(waiting);
     let mut i: usize = 0;
     while i < n {
-        write_events(&list[i]);
+        write_events(&list[i], ticks);
         i = i + 1;
     }
 }
 
-fn write_combined(mark: bool, w: &[u64; 10], o: &[u64; 10]) {
+fn write_combined(mark: bool, w: &[u64; 3], o: &[u64; 3], ticks: &[u64; 256])
+    requires { ⌜ getD (now ticks) 0 0 ≡ 0 ⌝ }
+{
     if mark {
-        let c = occurrences::combined(w, o, RATIO);
-        write_events(&c);
+        let c = occurrences::combined(w, o, ticks, RATIO);
+        write_events(&c, ticks);
     }
 }
 
 // One for each taken.
-fn write_each(list: &[[u64; 10]; 16], waiting: usize, taken: [bool; 16], o: &[u64; 10]) {
+fn write_each(list: &[[u64; 3]; 16], waiting: usize, taken: u64, o: &[u64; 3], ticks: &[u64; 256])
+    requires { ⌜ getD (now ticks) 0 0 ≡ 0 ⌝ }
+{
     let n = waiting_lists::count(waiting);
     let mut i: usize = 0;
     while i < n {
-        write_combined(taken[i], &list[i], o);
+        write_combined(waiting_lists::is_marked(taken, i), &list[i], o, ticks);
         i = i + 1;
     }
 }
 
 // One for all together, if any is taken.
-fn write_together(list: &[[u64; 10]; 16], waiting: usize, taken: [bool; 16], o: &[u64; 10]) {
+fn write_together(
+    list: &[[u64; 3]; 16],
+    waiting: usize,
+    taken: u64,
+    o: &[u64; 3],
+    ticks: &[u64; 256],
+)
+    requires { ⌜ getD (now ticks) 0 0 ≡ 0 ⌝ }
+{
     let first = waiting_lists::first_marked(taken);
     let n = waiting_lists::count(waiting);
     if first < n {
-        let all = contexts::all_combined(list, waiting, taken, o, RATIO);
-        write_events(&all);
+        let all = contexts::all_combined(list, waiting, taken, o, ticks, RATIO);
+        write_events(&all, ticks);
     }
 }
 
 fn write_made(
     context: u64,
-    list: &[[u64; 10]; 16],
+    list: &[[u64; 3]; 16],
     waiting: usize,
-    taken: [bool; 16],
-    o: &[u64; 10],
-) {
+    taken: u64,
+    o: &[u64; 3],
+    ticks: &[u64; 256],
+)
+    requires { ⌜ getD (now ticks) 0 0 ≡ 0 ⌝ }
+{
     if contexts::makes_each(context) {
-        write_each(list, waiting, taken, o);
+        write_each(list, waiting, taken, o, ticks);
     } else {
-        write_together(list, waiting, taken, o);
+        write_together(list, waiting, taken, o, ticks);
     }
 }
 
 // What an arrival makes and leaves, by the candidates that are marked.
 fn work(
     context: u64,
-    list: &mut [[u64; 10]; 16],
+    list: &mut [[u64; 3]; 16],
     waiting: usize,
-    candidates: [bool; 16],
-    o: &[u64; 10],
-) {
-    let c = contexts::choose(context, list, waiting, candidates, RATIO);
+    candidates: u64,
+    o: &[u64; 3],
+    ticks: &[u64; 256],
+)
+    requires { ⌜ getD (now ticks) 0 0 ≡ 0 ⌝ }
+{
+    let c = contexts::choose(context, list, waiting, candidates, ticks, RATIO);
     let taken = c.taken;
     let removed = c.removed;
     write(b" makes");
-    write_made(context, list, waiting, taken, o);
+    write_made(context, list, waiting, taken, o, ticks);
     let left = waiting_lists::remove_from(list, waiting, removed);
     write(b" leaves");
-    write_waiting(list, left);
+    write_waiting(list, left, ticks);
     write(b"\n");
 }
 
 fn seq(context: u64, name: &[u8]) {
-    let nothing = [0u64; 10];
+    let nothing = [0u64; 3];
     let mut list = [nothing; 16];
-    let n = wait_four(&mut list);
-    let o = event(2, 120, 2);
-    let candidates = contexts::before_arrival(&list, n, &o, RATIO);
+    let mut ticks = [0u64; 256];
+    let n = wait_four(&mut list, &mut ticks);
+    let o = event(&mut ticks, 2, 120, 2);
+    let candidates = contexts::before_arrival(&list, n, &o, &ticks, RATIO);
     write(b"SEQ ");
     write(name);
-    work(context, &mut list, n, candidates, &o);
+    work(context, &mut list, n, candidates, &o, &ticks);
 }
 
 fn and(context: u64, name: &[u8]) {
-    let nothing = [0u64; 10];
+    let nothing = [0u64; 3];
     let mut list = [nothing; 16];
-    let n = wait_four(&mut list);
-    let o = event(2, 120, 2);
+    let mut ticks = [0u64; 256];
+    let n = wait_four(&mut list, &mut ticks);
+    let o = event(&mut ticks, 2, 120, 2);
     let candidates = contexts::all_waiting(n);
     write(b"AND ");
     write(name);
-    work(context, &mut list, n, candidates, &o);
+    work(context, &mut list, n, candidates, &o, &ticks);
 }
 
 // One more, and a line where the list is full.
-fn one_more(list: &mut [[u64; 10]; 16], n: usize, number: usize) -> usize {
+fn one_more(list: &mut [[u64; 3]; 16], ticks: &mut [u64; 256], n: usize, number: usize) -> usize
+    requires { ⌜ (number < 128) × (getD (now ticks) 0 0 ≡ 0) ⌝ }
+    ensures { λ _. ⌜ getD (now (ticks .exit)) 0 0 ≡ 0 ⌝ }
+{
     if 16 <= n {
         write(b"full at");
         write_number(number);
         write(b"\n");
     }
-    add(list, n, 1, 7, number)
+    add(list, ticks, n, 1, 7, number)
 }
 
 // Sixteen wait and no more; two leave, and a freed place is used again.
 fn fill() {
-    let nothing = [0u64; 10];
+    let nothing = [0u64; 3];
     let mut list = [nothing; 16];
+    let mut ticks = [0u64; 256];
     let mut n: usize = 0;
     let mut i: usize = 0;
     while i < 18 {
-        n = one_more(&mut list, n, i);
+        n = one_more(&mut list, &mut ticks, n, i);
         i = i + 1;
     }
-    let mut gone = [false; 16];
-    gone[0] = true;
-    gone[14] = true;
+    let first = waiting_lists::with_mark(0, 0, true);
+    let gone = waiting_lists::with_mark(first, 14, true);
     let fewer = waiting_lists::remove_from(&mut list, n, gone);
     write(b"waiting");
-    let all = one_more(&mut list, fewer, 100);
-    write_waiting(&list, all);
+    let all = one_more(&mut list, &mut ticks, fewer, 100);
+    write_waiting(&list, all, &ticks);
     write(b"\n");
 }
 

@@ -1,74 +1,97 @@
--- The finding of the code's values: its size, and its parts as they are written.
-use mathlib.Core.Path.{_≡_, refl}
+-- The finding of an occurrence: its size, and its parts as they are written.
+use mathlib.Core.Path.{_≡_, refl, sym, _∙_}
 use mathlib.Core.List.{List, _++_, map, append-assoc}
-use Prim.Native.Nat.{ℕ, _+_, _*_, _≤_}
+use Prim.Native.Nat.{ℕ, _+_, _-_, _*_, _≤_}
 use native.Mathlib.Omega.{arith}
-use lib.ListN.{length, length-map}
-use Rattle.timestamps.specs.declared.CompositeTimestamp.{CompositeTimestamp}
+use lib.ListN.{length, length-append, length-map}
 use Rattle.timestamps.specs.Composite.{members}
-use Rattle.event_sets.specs.declared.EventSet.{EventSet}
+use Rattle.occurrences.specs.declared.Occurrence.{Occurrence}
 use Rattle.event_sets.specs.Sets.{elements, sizeOf}
+use Rattle.event_sets.proofs.Members.{size-most}
 use Rattle.forms.specs.Bytes.{bigEndian}
-use Rattle.forms.specs.Forms.{number, each, sectionBytes}
-use Rattle.detections.specs.Findings.{stamp, findingBytes}
-use Rattle.detections.specs.Steps.{presentCount}
+use Rattle.forms.specs.Forms.{Form, number, each, sectionBytes}
+use Rattle.forms.proofs.Forms.{Laws, length-each}
+use Rattle.detections.specs.Findings.{Finding, stamp, findingBytes}
 use Rattle.detections.specs.Views.{written, findingOf}
 use Rattle.detections.specs.Writing.{Wrote}
-use Rattle.detections.proofs.Sizes.{length-two, length-finding}
-use Rattle.detections.proofs.Stamps.{count-members}
-use Rattle.detections.proofs.Writing.{Writes, writes-start, writes-room, writes-turn}
+use Rattle.detections.proofs.Sizes.{length-finding, length-two}
+use Rattle.detections.proofs.Stamps.{members-most}
+use Rattle.detections.proofs.Writing.{Writes, writes-start, writes-room, writes-turn, wrote-front, wrote-length}
 
-module _ (loggers : List ℕ) (node : ℕ) (c : CompositeTimestamp) (s : EventSet) (n e : ℕ) (h : n ≡ presentCount (c .present)) (k : e ≡ sizeOf s) where
-  abbrev stampEntries : List ℕ
-  stampEntries = each stamp (map (written loggers) (members c))
+-- ---- a section at a place of an output: the entries first, and then their count in front of them
+module _ {A : Type 0} (f : Form A) (L : Laws f) (l : List A) (out : List ℕ) (at : ℕ) (fit : at + length (sectionBytes f l) ≤ length out) where
+  entries-length : length (sectionBytes f l) ≡ 2 + length (each f l)
+  unfolding sectionBytes
+  entries-length = length-append (bigEndian 2 (length l)) (each f l) ∙ omega (arith, length-two (length l))
 
-  abbrev eventEntries : List ℕ
-  eventEntries = each (number 2) (elements s)
+  pub entries-room : at + 2 + length (each f l) ≤ length out
+  entries-room = omega (arith, fit, entries-length)
 
-  -- the counts make the size
-  pub size-is : 6 + 10 * n + 2 * e ≡ length (findingBytes (findingOf loggers node c s))
+  module _ {to : ℕ} {out₁ : List ℕ} (w : Wrote out (at + 2) (each f l) to out₁) where
+    pub entries-from : at + 2 ≤ to
+    entries-from = omega (arith, w .next)
+
+    pub count-room : at + 2 ≤ length out₁
+    count-room = omega (arith, entries-room, wrote-length entries-room w)
+
+    -- as many as their bytes say
+    pub entries-counted : to - (at + 2) ≡ f .width * length l
+    entries-counted = omega (arith, w .next, length-each f L l)
+
+    pub section-done : {n r : ℕ} {out₂ : List ℕ} → n ≡ length l → Wrote out₁ at (bigEndian 2 n) r out₂ → Wrote out at (sectionBytes f l) to out₂
+    unfolding sectionBytes
+    section-done {n} {r} e v = wrote-front {bs = bigEndian 2 (length l)} {r₂ = r} (omega (arith, length-two (length l))) (omega (arith, entries-room)) w (rw (sym e) v)
+
+-- ---- how many bytes the finding of an occurrence takes
+module _ (loggers : List ℕ) (node : ℕ) (o : Occurrence) where
+  -- as many stamps and events
+  stamps-counted : length (findingOf loggers node (o .latest) (o .events) .stamps) ≡ length (members (o .latest))
+  unfolding findingOf
+  stamps-counted = length-map (members (o .latest)) (written loggers)
+
+  events-counted : length (findingOf loggers node (o .latest) (o .events) .events) ≡ sizeOf (o .events)
   unfolding findingOf sizeOf
-  size-is = omega (arith, h, k, count-members c, length-map (members c) (written loggers), length-finding (findingOf loggers node c s))
+  events-counted = refl
 
-  parts : findingBytes (findingOf loggers node c s) ≡ bigEndian 2 node ++ (bigEndian 2 n ++ (stampEntries ++ (bigEndian 2 e ++ eventEntries)))
-  unfolding findingBytes findingOf sectionBytes sizeOf
-  parts = rw (h, k, count-members c, length-map (members c) (written loggers)) (simp append-assoc)
+  -- what is the size of every finding with so many is that of this one
+  pub finding-size : {n e r : ℕ} → n ≡ length (members (o .latest)) → e ≡ sizeOf (o .events)
+      → ((f : Finding) → length (f .stamps) ≡ n → length (f .events) ≡ e → r ≡ length (findingBytes f)) → r ≡ length (findingBytes (findingOf loggers node (o .latest) (o .events)))
+  finding-size h k size = size (findingOf loggers node (o .latest) (o .events)) (stamps-counted ∙ sym h) (events-counted ∙ sym k)
 
-  -- ---- part by part, where all of it fits: each part has room, and after the last all is written
-  module _ (l : List ℕ) (at : ℕ) (fit : at + length (findingBytes (findingOf loggers node c s)) ≤ length l) where
-    start : Writes l at (findingBytes (findingOf loggers node c s)) l at (findingBytes (findingOf loggers node c s))
-    start = writes-start l (findingBytes (findingOf loggers node c s)) at fit
+  pub finding-most : length (findingBytes (findingOf loggers node (o .latest) (o .events))) ≤ 342
+  finding-most = omega (arith, length-finding (findingOf loggers node (o .latest) (o .events)), stamps-counted, events-counted, members-most (o .latest), size-most (o .events))
 
+  -- ---- its parts, one after the other, where all of it fits: each part has room, and after the last all is written
+  abbrev whole : List ℕ
+  whole = findingBytes (findingOf loggers node (o .latest) (o .events))
+
+  abbrev stampSection : List ℕ
+  stampSection = sectionBytes stamp (map (written loggers) (members (o .latest)))
+
+  abbrev eventSection : List ℕ
+  eventSection = sectionBytes (number 2) (elements (o .events))
+
+  parts : whole ≡ bigEndian 2 node ++ (stampSection ++ eventSection)
+  unfolding findingBytes findingOf
+  parts = append-assoc (bigEndian 2 node) stampSection eventSection
+
+  module _ (l : List ℕ) (at : ℕ) (fit : at + length whole ≤ length l) where
     pub node-room : at + 2 ≤ length l
-    node-room = omega (arith, length-two node, writes-room start (bigEndian 2 node) _ parts)
+    node-room = omega (arith, length-two node, writes-room (writes-start l whole at fit) (bigEndian 2 node) _ parts)
 
     module _ {a : ℕ} {l₁ : List ℕ} (w₁ : Wrote l at (bigEndian 2 node) a l₁) where
-      node-done : Writes l at (findingBytes (findingOf loggers node c s)) l₁ a (bigEndian 2 n ++ (stampEntries ++ (bigEndian 2 e ++ eventEntries)))
-      node-done = writes-turn start parts w₁
+      node-done : Writes l at whole l₁ a (stampSection ++ eventSection)
+      node-done = writes-turn (writes-start l whole at fit) parts w₁
 
-      pub stamp-count-room : a + 2 ≤ length l₁
-      stamp-count-room = omega (arith, length-two n, writes-room node-done (bigEndian 2 n) _ refl)
+      pub stamps-room : a + length stampSection ≤ length l₁
+      stamps-room = writes-room node-done stampSection eventSection refl
 
-      module _ {a₂ : ℕ} {l₂ : List ℕ} (w₂ : Wrote l₁ a (bigEndian 2 n) a₂ l₂) where
-        stamp-count-done : Writes l at (findingBytes (findingOf loggers node c s)) l₂ a₂ (stampEntries ++ (bigEndian 2 e ++ eventEntries))
-        stamp-count-done = writes-turn node-done refl w₂
+      module _ {b : ℕ} {l₂ : List ℕ} (w₂ : Wrote l₁ a stampSection b l₂) where
+        stamps-done : Writes l at whole l₂ b eventSection
+        stamps-done = writes-turn node-done refl w₂
 
-        pub stamps-room : a₂ + length stampEntries ≤ length l₂
-        stamps-room = writes-room stamp-count-done stampEntries (bigEndian 2 e ++ eventEntries) refl
+        pub events-room : b + length eventSection ≤ length l₂
+        events-room = stamps-done .room
 
-        module _ {a₃ : ℕ} {l₃ : List ℕ} (w₃ : Wrote l₂ a₂ stampEntries a₃ l₃) where
-          stamps-done : Writes l at (findingBytes (findingOf loggers node c s)) l₃ a₃ (bigEndian 2 e ++ eventEntries)
-          stamps-done = writes-turn stamp-count-done refl w₃
-
-          pub event-count-room : a₃ + 2 ≤ length l₃
-          event-count-room = omega (arith, length-two e, writes-room stamps-done (bigEndian 2 e) _ refl)
-
-          module _ {a₄ : ℕ} {l₄ : List ℕ} (w₄ : Wrote l₃ a₃ (bigEndian 2 e) a₄ l₄) where
-            event-count-done : Writes l at (findingBytes (findingOf loggers node c s)) l₄ a₄ eventEntries
-            event-count-done = writes-turn stamps-done refl w₄
-
-            pub events-room : a₄ + length eventEntries ≤ length l₄
-            events-room = event-count-done .room
-
-            pub all-done : {r : ℕ} {l₅ : List ℕ} → Wrote l₄ a₄ eventEntries r l₅ → Wrote l at (findingBytes (findingOf loggers node c s)) r l₅
-            all-done w₅ = event-count-done .onward _ _ w₅
+        pub all-done : {r : ℕ} {l₃ : List ℕ} → Wrote l₂ b eventSection r l₃ → Wrote l at whole r l₃
+        all-done w₃ = stamps-done .onward _ _ w₃

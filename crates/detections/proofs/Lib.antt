@@ -3,8 +3,5 @@ pub mod Sizes
 pub mod Stamps
 pub mod Events
 pub mod Findings
-pub mod Telling
 pub mod Rising
-pub mod Reading
-pub mod Theorems
 pub mod Examples

@@ -1,18 +1,17 @@
 -- A finding's bytes: their parts and how many they are.
-use mathlib.Core.Path.{_≡_, refl, _∙_}
-use mathlib.Core.List.{List, [], _++_}
-use mathlib.Core.Bool.{Bool, true, false}
-use Prim.Native.Nat.{ℕ, _+_, _*_, _/_, _%_, _^_, _≤_}
+use mathlib.Core.Path.{_≡_, refl, sym, _∙_}
+use mathlib.Core.List.{List, [], _∷_, _++_, append-assoc, append-nil}
+use Prim.Native.Nat.{ℕ, _+_, _*_, _-_, _/_, _%_, _^_, _≤_, _<_}
 use native.Mathlib.Nat.{div-div-eq-div-mul, div-one}
 use native.Mathlib.Omega.{arith}
 use lib.ListN.{length, set, length-append}
-use Rattle.timestamps.specs.declared.LocalTick.{LocalTick}
+use borrow.Author.Tests.{lt-ltb, le-ltb}
 use Rattle.forms.specs.Bytes.{bigEndian}
 use Rattle.forms.specs.Forms.{number, pair, sectionBytes}
 use Rattle.forms.proofs.Numbers.{length-bigEndian, bigEndian-parts}
 use Rattle.forms.proofs.Forms.{Laws, number-laws, pair-laws, via-laws}
 use Rattle.forms.proofs.Prefixes.{length-section}
-use Rattle.detections.specs.Findings.{Finding, toStamp, fromStamp, stamp, findingBytes}
+use Rattle.detections.specs.Findings.{Finding, toStamp, fromStamp, stamp, findingBytes, findingsBytes}
 use Rattle.detections.specs.Steps.{stampBytes}
 use Rattle.detections.specs.Writing.{Wrote, Beyond}
 use Rattle.detections.proofs.Writing.{put-two, beyond-wrote}
@@ -36,17 +35,17 @@ eight-bytes v =
     ∙ rw (bigEndian-parts 4 2 (v / 2 ^ 16), bigEndian-parts 2 2 (v / 2 ^ 16 / 2 ^ 16), div-div-eq-div-mul v (2 ^ 16) (2 ^ 16), div-div-eq-div-mul v (2 ^ 32) (2 ^ 16))
 
 -- ---- a stamp, if there is one
-module _ (present : Bool) (logger : ℕ) (tick : LocalTick) where
-  pub stamp-yes : present ≡ true → stampBytes present logger tick ≡ bigEndian 2 logger ++ bigEndian 8 (tick .0)
+module _ (logger w : ℕ) where
+  pub stamp-yes : 0 < w → stampBytes logger w ≡ bigEndian 2 logger ++ bigEndian 8 (w - 1)
   unfolding stampBytes
-  stamp-yes e = rw e
+  stamp-yes h = rw (lt-ltb 0 w h)
 
-  pub stamp-no : present ≡ false → stampBytes present logger tick ≡ []
+  pub stamp-no : w ≤ 0 → stampBytes logger w ≡ []
   unfolding stampBytes
-  stamp-no e = rw e
+  stamp-no h = rw (le-ltb 0 w h)
 
-  pub length-stamp : present ≡ true → length (stampBytes present logger tick) ≡ 10
-  length-stamp e = rw (stamp-yes e) (omega (arith, length-append (bigEndian 2 logger) (bigEndian 8 (tick .0)), length-bigEndian 2 logger, length-bigEndian 8 (tick .0)))
+  pub length-stamp : 0 < w → length (stampBytes logger w) ≡ 10
+  length-stamp h = rw (stamp-yes h) (omega (arith, length-append (bigEndian 2 logger) (bigEndian 8 (w - 1)), length-bigEndian 2 logger, length-bigEndian 8 (w - 1)))
 
 -- ---- the whole
 pub length-parts : (f : Finding)
@@ -63,6 +62,23 @@ length-finding f = omega (arith, length-parts f, length-section stamp stamp-laws
 
 pub finding-least : (f : Finding) → 6 ≤ length (findingBytes f)
 finding-least f = omega (arith, length-finding f)
+
+-- ---- findings one after the other
+pub findings-append : (fs gs : List Finding) → findingsBytes (fs ++ gs) ≡ findingsBytes fs ++ findingsBytes gs
+unfolding findingsBytes
+findings-append [] gs = refl
+findings-append (f ∷ fs) gs = rw (findings-append fs gs) (sym (append-assoc (findingBytes f) (findingsBytes fs) (findingsBytes gs)))
+
+-- one more
+pub findings-more : (fs : List Finding) (f : Finding) → findingsBytes (fs ++ (f ∷ [])) ≡ findingsBytes fs ++ findingBytes f
+unfolding findingsBytes
+findings-more fs f = findings-append fs (f ∷ []) ∙ rw (append-nil (findingBytes f))
+
+-- six bytes for each, at least
+pub findings-least : (fs : List Finding) → 6 * length fs ≤ length (findingsBytes fs)
+unfolding findingsBytes
+findings-least [] = omega arith
+findings-least (f ∷ fs) = omega (arith, length-append (findingBytes f) (findingsBytes fs), finding-least f, findings-least fs)
 
 -- ---- one finding more in an output, after count of them
 pub beyond-finding : (f : Finding) {l l′ : List ℕ} {at r count : ℕ} → at + length (findingBytes f) ≤ length l → count ≤ at → Wrote l at (findingBytes f) r l′ → Beyond l l′ at (count + 1) r

@@ -6,7 +6,7 @@ use native.Mathlib.Numerals.{add-one}
 use native.Mathlib.Nat.{add-zero, add-assoc}
 use native.Mathlib.Omega.{arith}
 use lib.ListN.{length, take, drop, set, length-append, length-take, length-drop, take-append-drop}
-use lib.Seq.{sets-eq, take-at, drop-at, length-take-le, drop-drop}
+use lib.Seq.{sets-eq, take-append-le, take-at, drop-at, length-take-le, drop-drop}
 use Rattle.detections.specs.Writing.{put, Wrote, Beyond}
 
 -- ---- putting
@@ -68,6 +68,25 @@ pub wrote-there : {l l′ bs : List ℕ} {at r : ℕ} → at ≤ length l → Wr
 unfolding put
 wrote-there {l} {l′} {bs} {at} h w =
     rw (w .now, w .next, append-assoc) (drop-at (take at l) (bs ++ drop (at + length bs) l) at (length-take-le at l h))
+
+-- the output before the place
+wrote-before : {l l′ bs : List ℕ} {at r : ℕ} (n : ℕ) → n ≤ at → at ≤ length l → Wrote l at bs r l′ → take n l′ ≡ take n l
+unfolding put
+wrote-before {l} {l′} {bs} {at} n k h w =
+    let m : n ≤ length (take at l) = omega (arith, k, length-take-le at l h) in
+    ap (take n) (w .now ∙ append-assoc (take at l) bs (drop (at + length bs) l))
+    ∙ take-append-le n (take at l) (bs ++ drop (at + length bs) l) m
+    ∙ sym (take-append-le n (take at l) (drop at l) m)
+    ∙ ap (take n) (take-append-drop at l)
+
+-- one piece, and then another in front of it
+pub wrote-front : {l l₁ l₂ bs cs : List ℕ} {at from r r₂ : ℕ} → from ≡ at + length bs → from ≤ length l → Wrote l from cs r l₁ → Wrote l₁ at bs r₂ l₂ → Wrote l at (bs ++ cs) r l₂
+unfolding put
+wrote-front {l} {l₁} {l₂} {bs} {cs} {at} {from} {r} e h a b =
+    let n : r ≡ at + length (bs ++ cs) = omega (arith, e, a .next, length-append bs cs) in
+    let t : take at l₁ ≡ take at l = wrote-before at (omega (arith, e)) h a in
+    let d : drop (at + length bs) l₁ ≡ cs ++ drop (at + length (bs ++ cs)) l = ap (λ k. drop k l₁) (sym e) ∙ wrote-there h a ∙ ap (λ k. cs ++ drop k l) n in
+    record { next = n; now = b .now ∙ rw (t, d) (simp append-assoc) }
 
 pub wrote-length : {l l′ bs : List ℕ} {at r : ℕ} → at + length bs ≤ length l → Wrote l at bs r l′ → length l′ ≡ length l
 wrote-length {l} {l′} {bs} {at} h w = ap length (w .now) ∙ length-put l at bs h

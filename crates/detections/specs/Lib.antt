@@ -2,4 +2,3 @@ pub mod Findings
 pub mod Views
 pub mod Writing
 pub mod Steps
-pub mod Reader

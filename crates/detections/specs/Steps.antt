@@ -1,30 +1,20 @@
 -- What the functions compute step by step. Readers of the promises need none of these.
-use Prim.Native.Nat.{ℕ}
-use mathlib.Core.Bool.{Bool, false}
-use mathlib.Core.List.{List, []}
-use lib.ListN.{length, getD}
+use Prim.Native.Nat.{ℕ, zero, suc, _+_, _-_, _/_, _%_}
+use mathlib.Core.List.{List, [], _∷_}
+use lib.Dec.{eqb, ltb}
 use Rattle.sequences.specs.Choice.{pick}
-use Rattle.sequences.specs.Select.{filter}
-use Rattle.timestamps.specs.declared.LocalTick.{LocalTick}
-use Rattle.timestamps.specs.Composite.{loggerPlaces}
-use Rattle.detections.specs.declared.Stamp.{Stamp}
 use Rattle.detections.specs.Findings.{stamp}
 
--- how many of the eight places have a stamp
-unfoldable pub presentCount : List Bool → ℕ
-presentCount present = length (filter (λ k. getD present k false) loggerPlaces)
+-- ---- a word of a packed occurrence: the local tick of a stamp plus one, 0 where there is none
+-- how many stamps that is
+abbrev pub oneIf : ℕ → ℕ
+oneIf w = pick (ltb 0 w) 1 0
 
-abbrev pub oneIf : Bool → ℕ
-oneIf p = pick p 1 0
+-- its bytes, under the number of its logger
+unfoldable pub stampBytes : ℕ → ℕ → List ℕ
+stampBytes logger w = pick (ltb 0 w) (stamp .bytes (record { logger = logger; tick = record { 0 = w - 1 } })) []
 
--- a stamp, if there is one
-unfoldable pub stampBytes : Bool → ℕ → LocalTick → List ℕ
-stampBytes present logger tick = pick present (stamp .bytes (record { logger = logger; tick = tick })) []
-
--- the reader's fault
-abbrev pub faultOf : Bool → ℕ
-faultOf whole = pick whole 0 1
-
--- stands for a stamp where there is none
-abbrev pub noStamp : Stamp
-noStamp = record { logger = 0; tick = record { 0 = 0 } }
+-- ---- a word of events: the numbers of the bits that are set in its lowest d, of which the lowest has the number `first`
+unfoldable pub bitsFrom : ℕ → ℕ → ℕ → List ℕ
+bitsFrom zero first word = []
+bitsFrom (suc d) first word = pick (eqb (word % 2) 1) (first ∷ bitsFrom d (first + 1) (word / 2)) (bitsFrom d (first + 1) (word / 2))

@@ -1,16 +1,14 @@
 -- The finding that the code's values stand for.
 use Prim.Native.Nat.{ℕ}
 use mathlib.Core.List.{List, map}
-use lib.ListN.{getD, take}
+use lib.ListN.{getD}
 use Rattle.timestamps.specs.declared.Timestamp.{Timestamp}
 use Rattle.timestamps.specs.declared.CompositeTimestamp.{CompositeTimestamp}
 use Rattle.timestamps.specs.Composite.{members}
 use Rattle.event_sets.specs.declared.EventSet.{EventSet}
 use Rattle.event_sets.specs.Sets.{elements}
 use Rattle.detections.specs.declared.Stamp.{Stamp}
-use Rattle.detections.specs.declared.FindingRead.{FindingRead}
 use Rattle.detections.specs.Findings.{Finding}
-use Rattle.detections.specs.Reader.{FindingAnswer}
 
 -- a timestamp as it is written: the number of its logger, under the numbers by place, and its local tick
 abbrev pub written : List ℕ → Timestamp → Stamp
@@ -23,13 +21,4 @@ findingOf loggers node latest events =
       node = node;
       stamps = map (written loggers) (members latest);
       events = elements events;
-    }
-
--- the answer of a finding that was read: of the stamps as many as their count says
-abbrev pub answerOf : FindingRead → FindingAnswer
-answerOf r =
-    record {
-      whole = r .whole;
-      next = r .next;
-      finding = record { node = r .node; stamps = take (r .«stamp_count») (r .stamps); events = elements (r .events) };
     }

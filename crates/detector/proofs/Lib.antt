@@ -1,2 +1,3 @@
-pub mod Inputs
-pub mod Runs
+pub mod Answers
+pub mod Events
+pub mod Rows

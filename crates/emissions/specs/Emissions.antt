@@ -58,6 +58,6 @@ emitted room loggers place e o =
 unfoldable pub emittedAll : ℕ → List ℕ → ℕ → Emitting → List Occurrence → Emitting
 emittedAll room loggers place e l = fold (emitted room loggers place) l e
 
--- ---- what the code's values stand for: e and the row of what the node made, beside the output
-abbrev pub emitOf : Emit → List (List ℕ) → List ℕ → Emitting
-emitOf e made out = record { made = held made (e .made); findings = e .findings; bytes = take (e .at) out; limit = numberOf (e .limit) }
+-- ---- what the code's values stand for: e and the row of what the node made, beside the output and the table of ticks
+abbrev pub emitOf : List ℕ → Emit → List (List ℕ) → List ℕ → Emitting
+emitOf ticks e made out = record { made = held ticks made (e .made); findings = e .findings; bytes = take (e .at) out; limit = e .limit }

@@ -1,5 +1,4 @@
 // What a node makes from one event: findings to the output and to later nodes, until a limit ends the work.
-use detections::Detection;
 ghost use mathlib.Core.Path.{_≡_};
 ghost use Prim.Native.Nat.{_≤_};
 ghost use lib.ListN.{length};
@@ -15,10 +14,10 @@ pub enum Limit {
     OutputFull,
 }
 
-// How many findings a node has made from this event, in a row of eight that is lent; all findings of the passage; and the place after
+// The number of the limit that ended the work, 0 for none; how many findings a node has made from this event, in a row of eight that is lent; all findings of the passage; and the place after
 // the bytes written.
 pub struct Emit {
-    pub limit: Limit,
+    pub limit: u64,
     pub made: usize,
     pub findings: u64,
     pub at: usize,
@@ -36,62 +35,56 @@ pub fn number_of(l: Limit) -> u64
     }
 }
 
-pub fn is_reached(l: Limit) -> bool
-    ensures { λ r. ⌜ r ≡ reached (numberOf l) ⌝ }
+pub fn is_reached(limit: u64) -> bool
+    ensures { λ r. ⌜ r ≡ reached limit ⌝ }
 {
-    0 < number_of(l)
+    0 < limit
+}
+
+// The work ends under this limit; what was made before stays.
+fn stopped(e: Emit, limit: Limit) -> Emit
+    ensures { λ r. ⌜ r ≡ record { limit = numberOf limit; made = e .made; findings = e .findings; at = e .at } ⌝ }
+{
+    Emit {
+        limit: number_of(limit),
+        made: e.made,
+        findings: e.findings,
+        at: e.at,
+    }
 }
 
 // One finding: 32 where this node has made eight from this event, then 33 where it does not fit whole in the output left.
 pub fn emit_one(
     e: Emit,
-    made: &mut [[u64; 10]; 8],
+    made: &mut [[u64; 3]; 8],
     place: u64,
-    o: &[u64; 10],
+    o: &[u64; 3],
+    ticks: &[u64; 256],
     loggers: &[u64; 8],
     out: &mut [u8],
 ) -> Emit
     requires { ⌜ (e .at ≤ length (now out)) × (e .findings ≤ e .at) ⌝ }
-    ensures { λ r. ⌜ (emitOf r (now (made .exit)) (now (out .exit)) ≡ emitted (length (now (out .entry))) (now (loggers .entry)) place (emitOf e (now (made .entry)) (now (out .entry))) (occurrenceOf (now (o .entry)))) × Beyond (now (out .entry)) (now (out .exit)) (e .at) (r .findings) (r .at) ⌝ }
+    ensures { λ r. ⌜ (emitOf (now (ticks .entry)) r (now (made .exit)) (now (out .exit)) ≡ emitted (length (now (out .entry))) (now (loggers .entry)) place (emitOf (now (ticks .entry)) e (now (made .entry)) (now (out .entry))) (occurrenceOf (now (ticks .entry)) (now (o .entry)))) × Beyond (now (out .entry)) (now (out .exit)) (e .at) (r .findings) (r .at) ⌝ }
 {
     let limit = e.limit;
     let n = e.made;
-    let at = e.at;
     let findings = e.findings;
+    let at = e.at;
     if is_reached(limit) {
         return e;
     }
     let row = &made[..];
     if row.len() <= n {
-        return Emit {
-            limit: Limit::NodeFull,
-            made: n,
-            findings: findings,
-            at: at,
-        };
+        return stopped(e, Limit::NodeFull);
     }
-    let found = occurrences::unpacked(o);
-    let latest = found.latest;
-    let events = found.events;
-    let d = Detection {
-        node: place,
-        latest: latest,
-        events: events,
-    };
-    let size = detections::size(d);
     let left = out.len() - at;
-    if left < size {
-        return Emit {
-            limit: Limit::OutputFull,
-            made: n,
-            findings: findings,
-            at: at,
-        };
+    if !detections::fits(o, ticks, left) {
+        return stopped(e, Limit::OutputFull);
     }
+    let next = detections::write(out, at, place, o, ticks, loggers);
     made[n] = *o;
-    let next = detections::write(out, at, d, *loggers);
     Emit {
-        limit: Limit::None,
+        limit: number_of(Limit::None),
         made: n + 1,
         findings: findings + 1,
         at: next,

@@ -172,7 +172,7 @@ under-min zero t u d e = omega arith
 under-min (suc b) t u d e = omega arith
 
 -- the zeros in fewer places
-zeros-fewer : (d e n : ℕ) → trailingZeros d n ≡ min d (trailingZeros (d + e) n)
+pub zeros-fewer : (d e n : ℕ) → trailingZeros d n ≡ min d (trailingZeros (d + e) n)
 unfolding trailingZeros
 zeros-fewer zero e n = omega arith
 zeros-fewer (suc d) e n = rw (suc-add d e) (under-min (n % 2) (trailingZeros d (n / 2)) (trailingZeros (d + e) (n / 2)) d (zeros-fewer d e (n / 2)))

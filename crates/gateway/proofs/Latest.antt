@@ -36,8 +36,8 @@ use Rattle.detections.specs.declared.Stamp.{Stamp}
 use Rattle.detections.specs.Findings.{Finding, StampFits}
 use Rattle.detections.specs.Views.{findingOf, written}
 use Rattle.detections.proofs.Rising.{loggers-rising}
-use Rattle.detections.proofs.Theorems.{finding-within}
-use Rattle.detector.specs.Progress.{numbersByPlace, stampOf}
+use Rattle.readings.proofs.Theorems.{finding-within}
+use Rattle.progress.specs.Progress.{numbersByPlace, stampOf}
 use Rattle.latest_stamps.specs.Written.{Shown}
 use Rattle.latest_stamps.proofs.Theorems.{accepted-placeable, latest-in, latest-of}
 use Rattle.gateway.specs.Latest.{ExactFinding, IsLatest, entryStamp, isBefore, stampsFrom}

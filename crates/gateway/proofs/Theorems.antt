@@ -30,12 +30,12 @@ use Rattle.forms.specs.Bytes.{Bytes}
 use Rattle.forms.proofs.Layouts.{length-section}
 use Rattle.occurrences.specs.Latest.{Exact}
 use Rattle.detections.specs.Findings.{Finding, findingsBytes}
-use Rattle.detections.proofs.Telling.{AllFit, findings-told}
-use Rattle.detections.proofs.Theorems.{within-fits}
+use Rattle.readings.proofs.Telling.{AllFit, findings-told}
+use Rattle.readings.proofs.Theorems.{within-fits}
 use Rattle.emissions.specs.declared.Limit.{Limit}
 use Rattle.emissions.specs.declared.Limit.the-variants.{None, ListFull, NodeFull, OutputFull}
 use Rattle.emissions.specs.Emissions.{numberOf}
-use Rattle.detector.specs.Progress.{numbersByPlace, runOf, stampOf}
+use Rattle.progress.specs.Progress.{numbersByPlace, runOf, stampOf}
 use Rattle.latest_stamps.specs.Written.{Kept}
 use Rattle.latest_stamps.proofs.Theorems.{accepted-exact}
 use Rattle.gateway.specs.declared.Answer.{Answer}

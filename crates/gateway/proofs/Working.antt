@@ -1,14 +1,11 @@
 -- How the work ends, from what the readers and the run ensure.
 use mathlib.Core.Bool.{true, false}
 use mathlib.Core.List.{List}
-use mathlib.Core.Path.{_≡_, sym, ap, _∙_}
+use mathlib.Core.Path.{_≡_, refl, ap, subst, _∙_}
 use Prim.Native.Nat.{ℕ}
-use native.Mathlib.Omega.{arith}
 use lib.Dec.{eqb}
-use lib.ListN.{length}
-use borrow.Author.Tests.{eqb-true}
 use Rattle.sequences.specs.Choice.{pick}
-use Rattle.forms.specs.Bytes.{Bytes}
+use Rattle.plans.specs.Layout.{Plan}
 use Rattle.plans.specs.Faults.{numberOf as planNumber}
 use Rattle.plans.specs.Reader.{PlanAnswer, readPlan}
 use Rattle.plans.specs.Views.{answerOf, planOf}
@@ -16,12 +13,12 @@ use Rattle.plans.specs.declared.PlanRead.{PlanRead}
 use Rattle.passages.specs.Events.{passageEvents}
 use Rattle.passages.specs.Faults.{numberOf as passageNumber}
 use Rattle.passages.specs.Reader.{PassageAnswer, readPassage}
-use Rattle.passages.specs.Views.{Checked, checkOf, counted}
+use Rattle.passages.specs.Views.{Checked, Noted, checkOf, counted, heldEvents}
+use Rattle.passages.specs.declared.Event.{Event}
 use Rattle.passages.specs.declared.PassageCheck.{PassageCheck}
-use Rattle.passages.proofs.Theorems.{accepted-ticks}
-use Rattle.emissions.specs.Emissions.{numberOf, reached}
-use Rattle.detector.specs.Progress.{Progress, runOf}
-use Rattle.detector.specs.Steps.{Says, TicksFit}
+use Rattle.emissions.specs.Emissions.{reached}
+use Rattle.progress.specs.Progress.{Progress, runOf}
+use Rattle.detector.specs.Steps.{Ran, Says}
 use Rattle.detector.specs.declared.Run.{Run}
 use Rattle.gateway.specs.declared.Answer.{Answer}
 use Rattle.gateway.specs.Working.{Answers, endOf, passageWorked, planWorked, turnedBack, worked}
@@ -49,19 +46,20 @@ module _ (plan passage : List ℕ) (room : ℕ) (r : PlanRead) (read : answerOf 
     pub both-accepted : eqb (passageNumber (c .fault)) 0 ≡ true → worked plan passage room ≡ endOf (runOf room (planOf (r .plan)) (passageEvents (planOf (r .plan)) passage))
     both-accepted e = plan-accepted accepted ∙ rw (← same-number, e)
 
-    -- so each tick plus one fits its word
-    pub ticks-fit : Bytes passage → eqb (passageNumber (c .fault)) 0 ≡ true → TicksFit (passageEvents (planOf (r .plan)) passage)
-    ticks-fit B e i =
-        let z : readPassage (planOf (r .plan)) passage .number ≡ 0 = sym same-number ∙ eqb-true _ _ e in
-        omega (arith, accepted-ticks (planOf (r .plan)) passage B z i)
+-- the events that the check notes: they are noted as themselves, and the run over them is the passage's
+module _ (events : List Event) (count : ℕ) (kinds loggers ticks : List ℕ) (noted : Noted events count kinds loggers ticks) where
+  pub noted-themselves : Noted (heldEvents count kinds loggers ticks) count kinds loggers ticks
+  noted-themselves = record { held = refl; few = noted .few; none = noted .none; each = noted .each }
+
+  pub ran-noted : (p : Plan) (out : List ℕ) (r : Run) (out′ : List ℕ) → Ran p (heldEvents count kinds loggers ticks) out r out′ → Ran p events out r out′
+  ran-noted p out r out′ ran = subst (λ (es : List Event). Ran p es out r out′) (noted .held) ran
 
 -- the answer on a run
-pub run-answers : (p : Progress) (out : List ℕ) (r : Run) (out′ : List ℕ) (place number : ℕ) → Says p out r out′ → number ≡ numberOf (r .limit)
-    → place ≡ pick (reached number) (r .event) 0
-    → Answers (endOf p) out (record { number = number; place = place; findings = r .findings; bytes = r .bytes }) out′
-run-answers p out r out′ place number s n k = record {
-  number = n ∙ s .limit;
-  place = k ∙ rw (n, s .limit, s .event);
+pub run-answers : (p : Progress) (out : List ℕ) (r : Run) (out′ : List ℕ) (place : ℕ) → Says p out r out′ → place ≡ pick (reached (r .limit)) (r .event) 0
+    → Answers (endOf p) out (record { number = r .limit; place = place; findings = r .findings; bytes = r .bytes }) out′
+run-answers p out r out′ place s k = record {
+  number = s .limit;
+  place = k ∙ rw (s .limit, s .event);
   findings = s .findings;
   bytes = s .bytes;
   written = s .written;

@@ -14,7 +14,7 @@ use Rattle.passages.specs.Limits.{noEntry}
 use Rattle.passages.specs.Reader.{readPassage}
 use Rattle.detections.specs.declared.Stamp.{Stamp}
 use Rattle.detections.specs.Findings.{Finding, findingsBytes}
-use Rattle.detections.specs.Reader.{WithinLimits}
+use Rattle.readings.specs.Reader.{WithinLimits}
 
 -- the stamp of an event: the logger number and local tick of its passage entry
 abbrev pub entryStamp : EventEntry → Stamp

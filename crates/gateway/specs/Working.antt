@@ -11,7 +11,7 @@ use Rattle.plans.specs.Reader.{PlanAnswer, readPlan}
 use Rattle.passages.specs.Events.{passageEvents}
 use Rattle.passages.specs.Reader.{PassageAnswer, readPassage}
 use Rattle.emissions.specs.Emissions.{reached}
-use Rattle.detector.specs.Progress.{Progress, runOf}
+use Rattle.progress.specs.Progress.{Progress, runOf}
 use Rattle.gateway.specs.declared.Answer.{Answer}
 
 -- how the work ends: a number of the table or 0, its place, the findings and their bytes

@@ -47,14 +47,16 @@ pub fn work(plan: &[u8], passage: &[u8], output: &mut [u8]) -> Answer
         return turned_back(plan_fault.number(), read.place);
     }
     let accepted = read.plan;
-    let check = passages::check_passage(accepted, passage);
+    let mut kinds = [0u8; 128];
+    let mut loggers = [0u8; 128];
+    let mut ticks = [0u64; 256];
+    let check = passages::check_passage(accepted, passage, &mut kinds, &mut loggers, &mut ticks);
     let passage_fault = check.fault;
     if !passage_fault.is_none() {
         return turned_back(passage_fault.number(), check.place);
     }
-    let run = detector::run_events(accepted, passage, output);
-    let limit = run.limit;
-    let number = emissions::number_of(limit);
+    let run = detector::run_events(accepted, check.count, &kinds, &loggers, &ticks, output);
+    let number = run.limit;
     Answer {
         number: number,
         place: place_of(number, run.event),

@@ -28,8 +28,9 @@ use Rattle.plans.specs.Limits.{noNode}
 use Rattle.passages.specs.declared.Event.{Event}
 use Rattle.emissions.specs.declared.Limit.the-variants.{None}
 use Rattle.emissions.specs.Emissions.{numberOf, reached}
-use Rattle.operators.specs.Turns.{Setting, Turned, settingOf}
-use Rattle.detector.specs.Progress.{Progress, arrivalsOf, closed, eventStep, nodeStep, numbersByPlace, runOf, stampOf, start, turnAt, turned}
+use Rattle.arrivals.specs.Arrivals.{Setting, settingOf}
+use Rattle.operators.specs.Turns.{Turned}
+use Rattle.progress.specs.Progress.{Progress, arrivalsOf, closed, eventStep, nodeStep, numbersByPlace, runOf, stampOf, start, turnAt, turned}
 use Rattle.latest_stamps.specs.Written.{All, Kept, Shown, Written}
 use Rattle.latest_stamps.proofs.Turns.{TurnOk, all-none, all-one, pick-all, turn-keeps}
 

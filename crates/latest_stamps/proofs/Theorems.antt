@@ -25,7 +25,7 @@ use Rattle.passages.specs.declared.EventEntry.{EventEntry}
 use Rattle.passages.specs.Events.{noEvent, passageEvents}
 use Rattle.passages.specs.Reader.{accepted, readPassage}
 use Rattle.passages.proofs.Theorems.{accepted-count, accepted-is-laid-out, accepted-placed}
-use Rattle.detector.specs.Progress.{numbersByPlace, runOf, stampOf}
+use Rattle.progress.specs.Progress.{numbersByPlace, runOf, stampOf}
 use Rattle.latest_stamps.specs.Written.{Kept}
 use Rattle.latest_stamps.proofs.Runs.{run-exact}
 

@@ -17,7 +17,7 @@ use Rattle.occurrences.specs.declared.Occurrence.{Occurrence}
 use Rattle.occurrences.specs.Combination.{combinationOf, combinedOf}
 use Rattle.detections.specs.Findings.{Finding, findingsBytes}
 use Rattle.detections.specs.Views.{findingOf}
-use Rattle.detections.proofs.Telling.{findings-more}
+use Rattle.detections.proofs.Sizes.{findings-more}
 use Rattle.waiting_lists.specs.Waiting.{isFull}
 use Rattle.contexts.specs.Choice.{andCandidates, chosen, seqCandidates}
 use Rattle.contexts.specs.Made.{madeOf}
@@ -26,7 +26,8 @@ use Rattle.plans.specs.declared.Node.{Node}
 use Rattle.emissions.specs.declared.Limit.{Limit}
 use Rattle.emissions.specs.declared.Limit.the-variants.{None, ListFull, NodeFull, OutputFull}
 use Rattle.emissions.specs.Emissions.{Emitting, bytesOf, emitted, emittedAll, ended, numberOf, reached}
-use Rattle.operators.specs.Turns.{Met, Setting, Sides, Turned, afterwards, andArrived, arrived, findingsOf, joinsBy, leftSides, metBy, nodeTurn, orArrived, restOf, rightSides, seqLeft, seqRight, waited}
+use Rattle.arrivals.specs.Arrivals.{Met, Setting, Sides, afterwards, andArrived, findingsOf, joinsBy, metBy, restOf, waited}
+use Rattle.operators.specs.Turns.{Turned, arrived, leftSides, nodeTurn, orArrived, rightSides, seqLeft, seqRight}
 use Rattle.latest_stamps.specs.Written.{All, Shown, Written}
 
 -- ---- lists and choices

@@ -11,7 +11,7 @@ use Rattle.detections.specs.Findings.{Finding, findingsBytes}
 use Rattle.detections.specs.Views.{findingOf}
 use Rattle.emissions.specs.declared.Limit.{Limit}
 use Rattle.emissions.specs.Emissions.{numberOf, reached}
-use Rattle.detector.specs.Progress.{Progress}
+use Rattle.progress.specs.Progress.{Progress}
 
 -- every occurrence of a list has the property
 abbrev pub All : (Occurrence → Type 0) → List Occurrence → Type 0

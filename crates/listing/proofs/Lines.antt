@@ -10,7 +10,7 @@ use lib.Seq.{drop-cons, getD-take, drop-length, drop-drop, drop-nil}
 use Rattle.event_sets.specs.declared.EventSet.{EventSet}
 use Rattle.event_sets.specs.Sets.{elements, elementsFrom, nextFrom}
 use Rattle.event_sets.proofs.Walks.{walk-start, walk-turn, from-end}
-use Rattle.detections.specs.Reader.{FindingAnswer, readFinding}
+use Rattle.readings.specs.Reader.{FindingAnswer, readFinding}
 use Rattle.listing.specs.Text.{comma, listed, numberText, lineText, linesAt}
 
 -- ---- the first n of a list, from place i on

@@ -7,8 +7,8 @@ use lib.ListN.{length, drop, length-append, length-drop}
 use lib.Seq.{drop-drop, drop-append-seam}
 use Rattle.sequences.specs.Members.{_∈_}
 use Rattle.detections.specs.Findings.{Finding, findingBytes, findingsBytes}
-use Rattle.detections.specs.Reader.{WithinLimits}
-use Rattle.detections.proofs.Theorems.{laid-out-is-read}
+use Rattle.readings.specs.Reader.{WithinLimits}
+use Rattle.readings.proofs.Theorems.{laid-out-is-read}
 use Rattle.listing.specs.Text.{lineText, linesText, linesAt}
 
 -- findings within the limits, one after the other from a place on

@@ -5,7 +5,7 @@ use lib.Dec.{ltb}
 use Rattle.sequences.specs.Choice.{pick}
 use Rattle.detections.specs.declared.Stamp.{Stamp}
 use Rattle.detections.specs.Findings.{Finding}
-use Rattle.detections.specs.Reader.{readFinding}
+use Rattle.readings.specs.Reader.{readFinding}
 use Rattle.gateway.specs.declared.Answer.{Answer}
 
 -- ---- numbers

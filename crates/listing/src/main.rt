@@ -1,18 +1,18 @@
 // Works a passage under a plan, both from their files, and prints a line for each finding and one for the answer, in document
 // 01's form. Of a file that cannot be read it says so on standard error, and prints nothing.
-use detections::FindingRead;
 use detections::Stamp;
 use event_sets::EventSet;
 use gateway::Answer;
 use libc::STDERR_FILENO;
 use libc::STDOUT_FILENO;
+use readings::FindingRead;
 ghost use Prim.Native.Nat.{_+_, _-_, _≤_, _<_};
 ghost use lib.ListN.{length, take};
 ghost use mathlib.Core.Bool.{true};
 ghost use mathlib.Core.Path.{_≡_};
 ghost use Rattle.io.specs.Counts.{Counts};
 ghost use Rattle.detections.specs.Writing.{Wrote};
-ghost use Rattle.detections.specs.Views.{answerOf};
+ghost use Rattle.readings.specs.Views.{answerOf};
 ghost use Rattle.event_sets.specs.Sets.{elements};
 ghost use Rattle.listing.specs.Text.{space, numberText, stampText, listed, lineText, endText};
 ghost use Rattle.listing.specs.Pages.{Fills};
@@ -144,7 +144,7 @@ fn fill(page: &mut [u8], output: &[u8], from: usize, count: u64) -> Filled
         if len > LAST_START {
             return Filled { len, next, left };
         }
-        let f = detections::read(output, next);
+        let f = readings::read(output, next);
         if !f.whole {
             return Filled { len, next, left: 0 };
         }

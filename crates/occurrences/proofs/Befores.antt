@@ -6,7 +6,6 @@ use mathlib.Core.Path.{_≡_, refl, sym, ap, _∙_}
 use Prim.Native.Nat.{ℕ, _+_, _-_, _/_, _≤_, _<_}
 use native.Mathlib.Decide.{ℕ-discrete, decLt}
 use native.Mathlib.Omega.{arith}
-use lib.ListN.{getD}
 use borrow.Author.Tests.{eq-eqb, lt-ltb, ltb-true, ne-eqb}
 use Rattle.sequences.specs.Members.{_∈_}
 use Rattle.sequences.specs.Select.{any}
@@ -18,11 +17,11 @@ use Rattle.timestamps.specs.Composite.{members}
 use Rattle.timestamps.specs.Order.{before}
 use Rattle.timestamps.proofs.Order.{Before, before-is, before-says, one-clock, quotient-le, two-clocks}
 use Rattle.occurrences.specs.Occurrences.{isBefore}
-use Rattle.occurrences.specs.Packed.{occurrenceOf}
-use Rattle.occurrences.specs.Steps.{Lowest, floorOf, laterOf, ownBefore}
+use Rattle.occurrences.specs.Packed.{fromWords}
+use Rattle.occurrences.specs.Steps.{Lowest, clearOf, floorOf, laterOf, ownBefore}
 use Rattle.occurrences.proofs.Floors.{clear-floor, floor-clear}
 use Rattle.occurrences.proofs.Joins.{clear-before, stamp}
-use Rattle.occurrences.proofs.Steps.{next-word}
+use Rattle.occurrences.proofs.Steps.{next-place}
 use Rattle.occurrences.proofs.Words.{latestOf, member-word, word-member, wordAt}
 
 -- ---- the ways in which a word is later
@@ -44,7 +43,7 @@ module _ (ratio low v w : ℕ) where
     lowest : 0 < low → low < floorOf ratio w → Later
 
   later-says : laterOf ratio low v w ≡ true → Later
-  unfolding laterOf
+  unfolding laterOf clearOf
   later-says h = elim (ℕ-discrete w 0) [
     | yes e ↦ none e
     | no n ↦ elim (either-way (ownBefore v w)) [
@@ -57,7 +56,7 @@ module _ (ratio low v w : ℕ) where
   ]
 
   later-is : Later → laterOf ratio low v w ≡ true
-  unfolding laterOf
+  unfolding laterOf clearOf
   later-is (none e) = rw (eq-eqb w 0 e)
   later-is (own p l) = rw (ne-eqb w 0 (λ e. omega (arith, e, l)), own-is v w p l)
   later-is (lowest p l) = elim (ℕ-discrete w 0) [
@@ -69,7 +68,7 @@ module _ (ratio low v w : ℕ) where
   ]
 
 -- ---- a timestamp t has one of a's before it exactly where its word is later
-module _ (ratio : ℕ) (a : List ℕ) (low : ℕ) (least : Lowest 10 a low) (t : Timestamp) (small : t .logger < 8) where
+module _ (ratio : ℕ) (a : List ℕ) (low : ℕ) (least : Lowest 8 (wordAt a) low) (t : Timestamp) (small : t .logger < 8) where
   abbrev isLater : Bool
   isLater = laterOf ratio low (wordAt a (t .logger)) (t .tick .0 + 1)
 
@@ -82,13 +81,11 @@ module _ (ratio : ℕ) (a : List ℕ) (low : ℕ) (least : Lowest 10 a low) (t :
       (word-member a (stamp (t .logger) (wordAt a (t .logger))) small (omega arith))
       (before-is ratio (stamp (t .logger) (wordAt a (t .logger))) t (one-clock refl (omega arith)))
   later-some (lowest p l) =
-      let (j, q, n, e) = least .some p in
-      let i : 2 + (j - 2) ≡ j = omega arith in
-      let w : wordAt a (j - 2) ≡ low = ap (λ x. getD a x 0) i ∙ e in
+      let (j, n, w) = least .some p in
       let u : t .tick .0 + 1 - 1 ≡ t .tick .0 = omega arith in
       any-in (λ s. before ratio s t) (members (latestOf a))
-      (word-member a (stamp (j - 2) low) (omega arith) (omega arith))
-      (clear-before ratio (stamp (j - 2) low) t (rw u at (floor-clear ratio low (t .tick .0 + 1) p l)))
+      (word-member a (stamp j low) n (omega arith))
+      (clear-before ratio (stamp j low) t (rw u at (floor-clear ratio low (t .tick .0 + 1) p l)))
 
   before-later : (s : Timestamp) → s ∈ members (latestOf a) → Before ratio s t → Later ratio low (wordAt a (t .logger)) (t .tick .0 + 1)
   before-later s m (one-clock e l) =
@@ -97,7 +94,7 @@ module _ (ratio : ℕ) (a : List ℕ) (low : ℕ) (least : Lowest 10 a low) (t :
       own (omega arith) (omega arith)
   before-later s m (two-clocks d l) =
       let (n, w) = member-word a s m in
-      let (p, g) = least .least (2 + s .logger) (omega arith) (omega arith) (omega arith) in
+      let (p, g) = least .least (s .logger) n (omega arith) in
       let u : t .tick .0 + 1 - 1 ≡ t .tick .0 = omega arith in
       let q : (low - 1) / ratio ≤ s .tick .0 / ratio = quotient-le ratio (low - 1) (s .tick .0) (omega arith) in
       lowest p (clear-floor ratio low (t .tick .0 + 1) p (rw u (omega arith)))
@@ -110,28 +107,25 @@ module _ (ratio : ℕ) (a : List ℕ) (low : ℕ) (least : Lowest 10 a low) (t :
       let (s, m, y) = any-of (λ s. before ratio s t) (members (latestOf a)) h in
       later-is ratio low (wordAt a (t .logger)) (t .tick .0 + 1) (before-later s m (before-says ratio s t y))
 
--- ---- all words
-pub later-turn : (ratio low : ℕ) (a b : List ℕ) (k : ℕ) (r : Bool) → r ≡ laterOf ratio low (getD a k 0) (getD b k 0) → r ≡ true
-    → ((j : ℕ) → 2 ≤ j → j < k → laterOf ratio low (getD a j 0) (getD b j 0) ≡ true) → (j : ℕ) → 2 ≤ j → j < k + 1 → laterOf ratio low (getD a j 0) (getD b j 0) ≡ true
-later-turn ratio low a b k r e y h = next-word (λ j. laterOf ratio low (getD a j 0) (getD b j 0) ≡ true) k h (sym e ∙ y)
+-- ---- all places
+pub later-turn : (ratio low : ℕ) (a b : List ℕ) (k : ℕ) → laterOf ratio low (wordAt a k) (wordAt b k) ≡ true
+    → ((j : ℕ) → j < k → laterOf ratio low (wordAt a j) (wordAt b j) ≡ true) → (j : ℕ) → j < k + 1 → laterOf ratio low (wordAt a j) (wordAt b j) ≡ true
+later-turn ratio low a b k y h = next-place (λ j. laterOf ratio low (wordAt a j) (wordAt b j) ≡ true) k h y
 
-module _ (ratio : ℕ) (a b : List ℕ) (low : ℕ) (least : Lowest 10 a low) where
-  pub all-later : ((j : ℕ) → 2 ≤ j → j < 10 → laterOf ratio low (getD a j 0) (getD b j 0) ≡ true) → isBefore ratio (occurrenceOf a) (occurrenceOf b) ≡ true
+module _ (ratio : ℕ) (a b : List ℕ) (low : ℕ) (least : Lowest 8 (wordAt a) low) where
+  pub all-later : ((k : ℕ) → k < 8 → laterOf ratio low (wordAt a k) (wordAt b k) ≡ true) → isBefore ratio (fromWords a) (fromWords b) ≡ true
   unfolding isBefore allBefore
   all-later h = all-in (λ t. any (λ s. before ratio s t) (members (latestOf a))) (members (latestOf b)) (λ t m.
       let (l, w) = member-word b t m in
-      is-later-some ratio a low least t l (ap (laterOf ratio low (wordAt a (t .logger))) (sym w) ∙ h (2 + t .logger) (omega arith) (omega arith)))
+      is-later-some ratio a low least t l (ap (laterOf ratio low (wordAt a (t .logger))) (sym w) ∙ h (t .logger) l))
 
-  pub one-not-later : (j : ℕ) → 2 ≤ j → j < 10 → laterOf ratio low (getD a j 0) (getD b j 0) ≡ false → isBefore ratio (occurrenceOf a) (occurrenceOf b) ≡ false
+  pub one-not-later : (k : ℕ) → k < 8 → laterOf ratio low (wordAt a k) (wordAt b k) ≡ false → isBefore ratio (fromWords a) (fromWords b) ≡ false
   unfolding isBefore allBefore
-  one-not-later j p q h = false-of-not-true _ (λ e.
-      let i : 2 + (j - 2) ≡ j = omega arith in
-      let x : wordAt a (j - 2) ≡ getD a j 0 = ap (λ n. getD a n 0) i in
-      let y : wordAt b (j - 2) ≡ getD b j 0 = ap (λ n. getD b n 0) i in
-      elim (decLt 0 (getD b j 0)) [
-        | yes l ↦ (let g : getD b j 0 - 1 + 1 ≡ getD b j 0 = omega arith in
-            let m : stamp (j - 2) (getD b j 0) ∈ members (latestOf b) = word-member b (stamp (j - 2) (getD b j 0)) (omega arith) (omega arith) in
-            let o : laterOf ratio low (wordAt a (j - 2)) (getD b j 0 - 1 + 1) ≡ true = some-is-later ratio a low least (stamp (j - 2) (getD b j 0)) (omega arith) (all-of (λ t. any (λ s. before ratio s t) (members (latestOf a))) (members (latestOf b)) e m) in
-            never-both (rw (x, g) at o) h)
-        | no l ↦ never-both (later-is ratio low (getD a j 0) (getD b j 0) (none (omega arith))) h
+  one-not-later k q h = false-of-not-true _ (λ e.
+      elim (decLt 0 (wordAt b k)) [
+        | yes l ↦ (let g : wordAt b k - 1 + 1 ≡ wordAt b k = omega arith in
+            let m : stamp k (wordAt b k) ∈ members (latestOf b) = word-member b (stamp k (wordAt b k)) q (omega arith) in
+            let o : laterOf ratio low (wordAt a k) (wordAt b k - 1 + 1) ≡ true = some-is-later ratio a low least (stamp k (wordAt b k)) q (all-of (λ t. any (λ s. before ratio s t) (members (latestOf a))) (members (latestOf b)) e m) in
+            never-both (rw g at o) h)
+        | no l ↦ never-both (later-is ratio low (wordAt a k) (wordAt b k) (none (omega arith))) h
       ])

@@ -1,11 +1,11 @@
--- A file event in ten numbers: the events' bits, and one word where its logger has a place.
+-- A file event: the events' bits, and its own number plus one in the byte of its logger, where that has a place.
 use mathlib.Core.List.{List, [], _∷_}
 use mathlib.Core.Path.{_≡_, refl, sym, ap, _∙_}
-use Prim.Native.Nat.{ℕ, _+_, _-_, _≤_, _<_}
+use Prim.Native.Nat.{ℕ, _+_, _-_, _*_, _%_, _^_, _≤_, _<_}
 use native.Mathlib.Decide.{ℕ-discrete}
 use native.Mathlib.Omega.{arith}
-use lib.ListN.{getD-replicate, length, length-set, replicate, set}
-use lib.Seq.{getD-drop, getD-set-other, getD-set-same}
+use lib.ListN.{getD, length}
+use lib.Pow.{pow-pos}
 use borrow.Author.Tests.{eq-eqb, lt-ltb, ne-eqb}
 use Rattle.sequences.specs.Select.{any}
 use Rattle.event_sets.specs.declared.EventSet.{EventSet}
@@ -13,16 +13,10 @@ use Rattle.event_sets.specs.Sets.{markedWith, noEvents}
 use Rattle.timestamps.specs.declared.Timestamp.{Timestamp}
 use Rattle.timestamps.specs.Composite.{compositeOf, ofLogger, tickOf}
 use Rattle.occurrences.specs.Occurrences.{ofEvent}
-use Rattle.occurrences.specs.Packed.{occurrenceOf}
+use Rattle.occurrences.specs.Packed.{byteAt, fromWords, occurrenceOf, wordsOf}
+use Rattle.occurrences.proofs.Bytes.{byte-beyond, length-words, lone-byte, other-byte, word-of}
 use Rattle.occurrences.proofs.Combination.{same-occurrence}
 use Rattle.occurrences.proofs.Words.{latestOf, latest-places, wordAt}
-
--- the bits alone
-abbrev pub bitsOnly : EventSet → List ℕ
-bitsOnly e = set (set (replicate 10 0) 0 (e .low)) 1 (e .high)
-
-no-word : (e : EventSet) (k : ℕ) → k < 8 → wordAt (bitsOnly e) k ≡ 0
-no-word e k h = sym (getD-drop 2 (bitsOnly e) k 0) ∙ getD-replicate 8 k 0 0 h
 
 module _ (s : Timestamp) where
   -- what stands at a place says whether it is the timestamp's
@@ -38,27 +32,38 @@ module _ (s : Timestamp) where
         | no d ↦ rw (there k l d, ne-eqb (s .logger) k (λ e. d (sym e)))
       ])
 
-  no-words : (e : EventSet) → 8 ≤ s .logger → latestOf (bitsOnly e) ≡ compositeOf (s ∷ [])
+  no-words : (r : List ℕ) → length r ≡ 10 → 8 ≤ s .logger → ((k : ℕ) → k < 8 → wordAt r k ≡ 0) → latestOf r ≡ compositeOf (s ∷ [])
   unfolding compositeOf tickOf any
-  no-words e h = latest-places (bitsOnly e) (λ k. any (ofLogger k) (s ∷ [])) (tickOf (s ∷ [])) refl
-      (λ k l. rw (no-word e k l, ne-eqb (s .logger) k (λ x. omega (arith, x, h, l))))
-      (λ k l. rw (no-word e k l, ne-eqb (s .logger) k (λ x. omega (arith, x, h, l))))
+  no-words r n h none = latest-places r (λ k. any (ofLogger k) (s ∷ [])) (tickOf (s ∷ [])) n
+      (λ k l. rw (none k l, ne-eqb (s .logger) k (λ x. omega (arith, x, h, l))))
+      (λ k l. rw (none k l, ne-eqb (s .logger) k (λ x. omega (arith, x, h, l))))
 
-  module _ (number : ℕ) (d e : EventSet) (p : d ≡ noEvents) (q : e ≡ markedWith d number) where
-    marked-is : e ≡ markedWith noEvents number
-    marked-is = q ∙ ap (λ x. markedWith x number) p
+  module _ (number : ℕ) (d e : EventSet) (p : d ≡ noEvents) (q : e ≡ markedWith d number) (ticks : List ℕ) (nothing : getD ticks 0 0 ≡ 0) where
+    -- the events' bits, with the word w
+    abbrev packed : ℕ → List ℕ
+    packed w = e .low ∷ e .high ∷ w ∷ []
 
-    pub event-placed : s .logger < 8 → occurrenceOf (set (bitsOnly e) (2 + s .logger) (s .tick .0 + 1)) ≡ ofEvent s number
-    unfolding ofEvent occurrenceOf
-    event-placed h = same-occurrence
-        (one-word (set (bitsOnly e) (2 + s .logger) (s .tick .0 + 1)) (length-set (bitsOnly e) (2 + s .logger) (s .tick .0 + 1))
-        (getD-set-same (bitsOnly e) (2 + s .logger) (s .tick .0 + 1) 0 (omega arith))
-        (λ k l n. getD-set-other (bitsOnly e) (2 + s .logger) (2 + k) (s .tick .0 + 1) 0 (λ x. n (omega arith)) ∙ no-word e k l))
-        ((λ i. record {
-          low = getD-set-other (bitsOnly e) (2 + s .logger) 0 (s .tick .0 + 1) 0 (λ x. omega (arith, x)) i;
-          high = getD-set-other (bitsOnly e) (2 + s .logger) 1 (s .tick .0 + 1) 0 (λ x. omega (arith, x)) i;
-        }) ∙ marked-is)
+    events-is : (w : ℕ) → occurrenceOf ticks (packed w) .events ≡ markedWith noEvents number
+    unfolding fromWords wordsOf
+    events-is w = q ∙ ap (λ x. markedWith x number) p
 
-    pub event-without-place : 8 ≤ s .logger → occurrenceOf (bitsOnly e) ≡ ofEvent s number
-    unfolding ofEvent occurrenceOf
-    event-without-place h = same-occurrence (no-words e h) marked-is
+    -- the word of a place by its byte
+    word-is : (w k n : ℕ) → k < 8 → byteAt w k ≡ n → wordAt (wordsOf ticks (packed w)) k ≡ getD ticks n 0
+    word-is w k n h b = word-of ticks (packed w) k h ∙ ap (λ x. getD ticks x 0) b
+
+    pub event-placed : number < 128 → getD ticks (number + 1) 0 ≡ s .tick .0 + 1 → s .logger < 8
+        → occurrenceOf ticks (packed ((number + 1) * 2 ^ (8 * s .logger) % 2 ^ 64)) ≡ ofEvent s number
+    unfolding ofEvent
+    event-placed m t h =
+        let b : number + 1 < 256 = omega arith in
+        same-occurrence
+        (one-word (wordsOf ticks (packed ((number + 1) * 2 ^ (8 * s .logger) % 2 ^ 64))) (length-words ticks (packed ((number + 1) * 2 ^ (8 * s .logger) % 2 ^ 64)))
+        (word-is ((number + 1) * 2 ^ (8 * s .logger) % 2 ^ 64) (s .logger) (number + 1) h (lone-byte (number + 1) (s .logger) b h) ∙ t)
+        (λ k l n. word-is ((number + 1) * 2 ^ (8 * s .logger) % 2 ^ 64) k 0 l (other-byte (number + 1) (s .logger) b h k n) ∙ nothing))
+        (events-is ((number + 1) * 2 ^ (8 * s .logger) % 2 ^ 64))
+
+    pub event-without-place : 8 ≤ s .logger → occurrenceOf ticks (packed 0) ≡ ofEvent s number
+    unfolding ofEvent
+    event-without-place h = same-occurrence
+        (no-words (wordsOf ticks (packed 0)) (length-words ticks (packed 0)) h (λ k l. word-is 0 k 0 l (byte-beyond 0 k (pow-pos (8 * k))) ∙ nothing))
+        (events-is 0)

@@ -1,14 +1,17 @@
 -- The floor of a word: below it are exactly those that are clearly earlier.
-use mathlib.Core.Path.{_≡_, sym, ap, _∙_}
+use mathlib.Core.Bool.{false}
+use mathlib.Core.Path.{_≡_, refl, sym, ap, _∙_}
 use Prim.Native.Nat.{ℕ, _+_, _-_, _*_, _/_, _≤_, _<_}
 use native.Mathlib.Decide.{ℕ-discrete, decLt}
-use native.Mathlib.Nat.{div-lt-iff-lt-mul, div-mul-le-self, div-zero, le-trans, mul-le-mul-right}
+use native.Mathlib.Nat.{add-div-right, div-lt-iff-lt-mul, div-mul-le-self, div-zero, le-trans, mul-le-mul-right}
 use native.Mathlib.Omega.{arith}
-use borrow.Author.Tests.{eq-eqb, ne-eqb}
+use lib.Dec.{ltb}
+use borrow.Author.Tests.{eq-eqb, le-ltb, lt-ltb, ne-eqb}
 use Rattle.timestamps.specs.declared.GlobalTick.{GlobalTick}
 use Rattle.timestamps.specs.declared.LocalTick.{LocalTick}
 use Rattle.timestamps.specs.Order.{globalOf}
-use Rattle.occurrences.specs.Steps.{floorOf}
+use Rattle.timestamps.proofs.Order.{quotient-le}
+use Rattle.occurrences.specs.Steps.{clearOf, floorOf}
 
 module _ (ratio w h : ℕ) where
   pub floor-clear : 0 < w → w < floorOf ratio h → (w - 1) / ratio + 1 < (h - 1) / ratio
@@ -46,3 +49,33 @@ module _ (ratio w : ℕ) where
 -- it is no later than the word itself
 pub floor-small : (ratio t g : ℕ) → g ≡ t / ratio → (g - 1) * ratio ≤ t
 floor-small ratio t g e = rw e (le-trans (mul-le-mul-right ratio (omega arith)) (div-mul-le-self t ratio))
+
+-- ---- what the distance of two words decides
+module _ (ratio low w : ℕ) where
+  -- at most one ratio apart: not clearly earlier
+  pub clear-near : w ≤ low + ratio → clearOf ratio low w ≡ false
+  unfolding clearOf
+  clear-near h = elim (ℕ-discrete low 0) [
+    | yes e ↦ rw (eq-eqb low 0 e)
+    | no n ↦ rw (ne-eqb low 0 n) (elim (decLt low (floorOf ratio w)) [
+      | yes l ↦ absurd (let g = floor-clear ratio low w (omega arith) l in
+          let q = quotient-le ratio (w - 1) (low - 1 + ratio) (omega arith) in
+          elim (decLt 0 ratio) [
+            | yes p ↦ (let a : (low - 1 + ratio) / ratio ≡ (low - 1) / ratio + 1 = add-div-right (low - 1) p in omega arith)
+            | no p ↦ (let z : ratio ≡ 0 = omega arith in let a : (w - 1) / ratio ≡ 0 = rw z (div-zero (w - 1)) in omega arith)
+          ])
+      | no l ↦ le-ltb low (floorOf ratio w) (omega arith)
+    ])
+  ]
+
+  -- at least two ratios apart: clearly earlier, unless the ratio is 0
+  pub clear-far : 0 < low → low + ratio + ratio ≤ w → clearOf ratio low w ≡ ltb 0 ratio
+  unfolding clearOf
+  clear-far p h = rw (ne-eqb low 0 (λ e. omega (arith, e, p))) (elim (decLt 0 ratio) [
+    | yes q ↦ (let a : (low - 1 + ratio) / ratio ≡ (low - 1) / ratio + 1 = add-div-right (low - 1) q in
+        let b : (low - 1 + ratio + ratio) / ratio ≡ (low - 1 + ratio) / ratio + 1 = add-div-right (low - 1 + ratio) q in
+        let g = quotient-le ratio (low - 1 + ratio + ratio) (w - 1) (omega arith) in
+        lt-ltb low (floorOf ratio w) (clear-floor ratio low w p (omega arith)) ∙ sym (lt-ltb 0 ratio q))
+    | no q ↦ (let z : ratio ≡ 0 = omega arith in
+        le-ltb low (floorOf ratio w) (let f = sym (floor-none ratio w ((w - 1) / ratio) refl (rw z (div-zero (w - 1)))) in omega arith) ∙ sym (le-ltb 0 ratio (omega arith)))
+  ])

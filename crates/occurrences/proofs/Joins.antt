@@ -1,11 +1,12 @@
 -- The join by words: of each logger the later word, and of these those that are not below the floor of the highest.
-use mathlib.Core.Bool.{true, false, not}
-use mathlib.Core.List.{List, _++_, Memᴰ·append-left, Memᴰ·append-right, List·Memᴰ·append-cases}
+use mathlib.Core.Bool.{true, false}
+use mathlib.Core.List.{List, [], _∷_, _++_, Memᴰ·append-left, Memᴰ·append-right, List·Memᴰ·append-cases}
 use mathlib.Core.Logic.{_⊎_, inl, inr, ⊎-elim}
-use mathlib.Core.Path.{_≡_, refl, sym, ap, _∙_}
+use mathlib.Core.Path.{_≡_, refl, sym, ap, ap₂, _∙_}
 use Prim.Native.Nat.{ℕ, max, _+_, _-_, _/_, _≤_, _<_}
 use native.Mathlib.Decide.{ℕ-discrete, decLt}
 use native.Mathlib.Omega.{arith}
+use lib.Bits.{bitOr}
 use lib.Dec.{ltb}
 use lib.ListN.{getD, length}
 use borrow.Author.Tests.{le-ltb, lt-ltb}
@@ -25,15 +26,26 @@ use Rattle.timestamps.proofs.Join.{joinOf-covered, joinOf-places}
 use Rattle.timestamps.proofs.Maxima.{Covers}
 use Rattle.timestamps.proofs.Order.{Before, before-is, before-says, clear-less, one-clock, quotient-le, two-clocks}
 use Rattle.occurrences.specs.Combination.{combinedOf}
-use Rattle.occurrences.specs.Packed.{occurrenceOf}
-use Rattle.occurrences.specs.Steps.{Highest, Kept, Merged, floorOf, keptOf}
+use Rattle.occurrences.specs.Packed.{fromWords, occurrenceOf, wordsOf}
+use Rattle.occurrences.specs.Steps.{Highest, floorOf, keptOf, tickAt}
+use Rattle.occurrences.proofs.Bytes.{length-words, word-of}
 use Rattle.occurrences.proofs.Combination.{same-occurrence}
 use Rattle.occurrences.proofs.Floors.{clear-floor, floor-clear}
+use Rattle.occurrences.proofs.Steps.{highest-same}
 use Rattle.occurrences.proofs.Words.{latestOf, latest-places, member-word, present-at, tick-at, word-member, wordAt}
 
 -- a timestamp by its word
 abbrev pub stamp : ℕ → ℕ → Timestamp
 stamp k v = record { logger = k; tick = record { 0 = v - 1 } }
+
+-- what is kept of a word
+pub kept-small : (f w : ℕ) → w < f → keptOf f w ≡ 0
+unfolding keptOf
+kept-small f w l = rw (lt-ltb w f l)
+
+pub kept-large : (f w : ℕ) → f ≤ w → keptOf f w ≡ w
+unfolding keptOf
+kept-large f w l = rw (le-ltb w f l)
 
 module _ (ratio : ℕ) where
   -- one that is clearly earlier is before, also on one clock
@@ -44,10 +56,7 @@ module _ (ratio : ℕ) where
   ])
 
   -- ---- of each logger the later
-  module _ (a b c : List ℕ) (m : Merged 10 a b c) where
-    later-word : (k : ℕ) → k < 8 → wordAt c k ≡ max (wordAt a k) (wordAt b k)
-    later-word k h = m .words (2 + k) (omega arith) (omega arith)
-
+  module _ (a b c : List ℕ) (later-word : (k : ℕ) → k < 8 → wordAt c k ≡ max (wordAt a k) (wordAt b k)) where
     -- a timestamp whose word is no larger than the later one is there, or before the one that is
     reach : (s : Timestamp) → s .logger < 8 → s .tick .0 + 1 ≤ wordAt c (s .logger)
         → (s ∈ members (latestOf c)) ⊎ ((t : Timestamp) × (t ∈ members (latestOf c)) × (before ratio s t ≡ true))
@@ -81,20 +90,18 @@ module _ (ratio : ℕ) where
     merged-join = joinOf-covered ratio (members (latestOf c)) (members (latestOf a) ++ members (latestOf b)) merged-covers
 
   -- ---- those that are before none
-  module _ (c : List ℕ) (h : ℕ) (top : Highest 10 c h) where
+  module _ (c : List ℕ) (h : ℕ) (top : Highest 8 (wordAt c) h) where
     tick-is : (k : ℕ) → stampAt (latestOf c) k .tick .0 ≡ wordAt c k - 1
     tick-is k = ap (λ (x : LocalTick). x .0) (tick-at c k)
 
     -- below the floor: the highest is after it
     below-before : (k : ℕ) → 0 < wordAt c k → k < 8 → wordAt c k < floorOf ratio h → any (before ratio (stampAt (latestOf c) k)) (members (latestOf c)) ≡ true
     below-before k p l f =
-        let g : wordAt c k ≤ h = top .most (2 + k) (omega arith) (omega arith) in
-        let (j, q, n, e) = top .some (omega arith) in
-        let i : 2 + (j - 2) ≡ j = omega arith in
-        let w : wordAt c (j - 2) ≡ h = ap (λ x. getD c x 0) i ∙ e in
+        let g : wordAt c k ≤ h = top .most k l in
+        let (j, n, w) = top .some (omega arith) in
         any-in (before ratio (stampAt (latestOf c) k)) (members (latestOf c))
-        (word-member c (stamp (j - 2) h) (omega arith) (omega arith))
-        (clear-before (stampAt (latestOf c) k) (stamp (j - 2) h) (rw (tick-is k) (floor-clear ratio (wordAt c k) h p f)))
+        (word-member c (stamp j h) n (omega arith))
+        (clear-before (stampAt (latestOf c) k) (stamp j h) (rw (tick-is k) (floor-clear ratio (wordAt c k) h p f)))
 
     -- otherwise none is
     above-none : (k : ℕ) → 0 < wordAt c k → floorOf ratio h ≤ wordAt c k → (t : Timestamp) → t ∈ members (latestOf c) → Before ratio (stampAt (latestOf c) k) t → ⊥
@@ -105,7 +112,7 @@ module _ (ratio : ℕ) where
         omega arith
     above-none k p f t m (two-clocks d l) =
         let (n, w) = member-word c t m in
-        let g : t .tick .0 ≤ h - 1 = (let o : wordAt c (t .logger) ≤ h = top .most (2 + t .logger) (omega arith) (omega arith) in omega arith) in
+        let g : t .tick .0 ≤ h - 1 = (let o : wordAt c (t .logger) ≤ h = top .most (t .logger) n in omega arith) in
         let q : t .tick .0 / ratio ≤ (h - 1) / ratio = quotient-le ratio (t .tick .0) (h - 1) g in
         let r : (wordAt c k - 1) / ratio + 1 < t .tick .0 / ratio = rw (tick-is k) at l in
         let u : wordAt c k < floorOf ratio h = clear-floor ratio (wordAt c k) h p (omega arith) in
@@ -115,14 +122,6 @@ module _ (ratio : ℕ) where
     data Case (k : ℕ) : Type 0 where
       gone : keptOf (floorOf ratio h) (wordAt c k) ≡ 0 → maximalAt ratio (latestOf c) k ≡ false → Case k
       stays : 0 < wordAt c k → keptOf (floorOf ratio h) (wordAt c k) ≡ wordAt c k → maximalAt ratio (latestOf c) k ≡ true → Case k
-
-    kept-small : (f w : ℕ) → w < f → keptOf f w ≡ 0
-    unfolding keptOf
-    kept-small f w l = rw (lt-ltb w f l)
-
-    kept-large : (f w : ℕ) → f ≤ w → keptOf f w ≡ w
-    unfolding keptOf
-    kept-large f w l = rw (le-ltb w f l)
 
     kept-case : (k : ℕ) → k < 8 → Case k
     unfolding maximalAt
@@ -152,24 +151,30 @@ module _ (ratio : ℕ) where
     told k (gone e f) = rw (e, f)
     told k (stays p e f) = rw (e, f) (sym (tick-at c k))
 
-    pub settled-join : (r : List ℕ) → length r ≡ 10 → Kept 10 (floorOf ratio h) c r → latestOf r ≡ joinOf ratio (members (latestOf c))
-    settled-join r n m =
+    pub settled-join : (r : List ℕ) → length r ≡ 10 → ((k : ℕ) → k < 8 → wordAt r k ≡ keptOf (floorOf ratio h) (wordAt c k)) → latestOf r ≡ joinOf ratio (members (latestOf c))
+    settled-join r n kept =
         latest-places r (maximalAt ratio (latestOf c)) (λ k. pick (maximalAt ratio (latestOf c) k) (stampAt (latestOf c) k .tick) tickZero) n
         (λ k l. ap (ltb 0) (kept k l) ∙ there k (kept-case k l))
         (λ k l. (λ i. record { 0 = kept k l i - 1 }) ∙ told k (kept-case k l))
         ∙ joinOf-places ratio (latestOf c)
-      where
-        kept : (k : ℕ) → k < 8 → wordAt r k ≡ keptOf (floorOf ratio h) (wordAt c k)
-        kept k l = m .words (2 + k) (omega arith) (omega arith)
 
-  -- ---- the whole
-  events-is : (a b c r : List ℕ) (f : ℕ) → Merged 10 a b c → Kept 10 f c r → occurrenceOf r .events ≡ unionOf (occurrenceOf a .events) (occurrenceOf b .events)
-  unfolding occurrenceOf unionOf
-  events-is a b c r f m k = λ i. record { low = (k .low ∙ m .low) i; high = (k .high ∙ m .high) i }
+  -- ---- the whole: the events of both, with the word w
+  module _ (ticks a b : List ℕ) where
+    abbrev both : ℕ → List ℕ
+    both w = bitOr (getD a 0 0) (getD b 0 0) ∷ bitOr (getD a 1 0) (getD b 1 0) ∷ w ∷ []
 
-  pub combined-is : (a b c r : List ℕ) (h f : ℕ) → length r ≡ 10 → Merged 10 a b c → Highest 10 c h → f ≡ floorOf ratio h → Kept 10 f c r
-      → occurrenceOf r ≡ combinedOf ratio (occurrenceOf a) (occurrenceOf b)
-  unfolding combinedOf
-  combined-is a b c r h f n m top e k =
-      let q : Kept 10 (floorOf ratio h) c r = rw e at k in
-      same-occurrence (settled-join c h top r n q ∙ merged-join a b c m) (events-is a b c r f m k)
+    events-is : (w : ℕ) → occurrenceOf ticks (both w) .events ≡ unionOf (occurrenceOf ticks a .events) (occurrenceOf ticks b .events)
+    unfolding fromWords unionOf wordsOf
+    events-is w = refl
+
+    pub combined-is : (m s h f : ℕ) → ((k : ℕ) → k < 8 → tickAt ticks m k ≡ max (tickAt ticks (getD a 2 0) k) (tickAt ticks (getD b 2 0) k)) → Highest 8 (tickAt ticks m) h
+        → f ≡ floorOf ratio h → ((k : ℕ) → k < 8 → tickAt ticks s k ≡ keptOf f (tickAt ticks m k)) → occurrenceOf ticks (both s) ≡ combinedOf ratio (occurrenceOf ticks a) (occurrenceOf ticks b)
+    unfolding combinedOf
+    combined-is m s h f later top e kept = same-occurrence
+        (settled-join (wordsOf ticks (both m)) h
+        (highest-same 8 (tickAt ticks m) (wordAt (wordsOf ticks (both m))) h (word-of ticks (both m)) top)
+        (wordsOf ticks (both s)) (length-words ticks (both s))
+        (λ k l. word-of ticks (both s) k l ∙ kept k l ∙ ap (λ x. keptOf x (tickAt ticks m k)) e ∙ ap (keptOf (floorOf ratio h)) (sym (word-of ticks (both m) k l)))
+        ∙ merged-join (wordsOf ticks a) (wordsOf ticks b) (wordsOf ticks (both m))
+        (λ k l. word-of ticks (both m) k l ∙ later k l ∙ sym (ap₂ max (word-of ticks a k l) (word-of ticks b k l))))
+        (events-is s)

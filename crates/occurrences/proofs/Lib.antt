@@ -1,4 +1,5 @@
 pub mod Befores
+pub mod Bytes
 pub mod Combination
 pub mod Events
 pub mod FileEvents

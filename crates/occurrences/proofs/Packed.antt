@@ -11,17 +11,17 @@ use Rattle.occurrences.specs.declared.Occurrence.{Occurrence}
 use Rattle.occurrences.specs.Occurrences.{blank}
 use Rattle.occurrences.specs.Packed.{held, occurrenceOf}
 
-pub length-held : (row : List (List ℕ)) (n : ℕ) → length (held row n) ≡ min n (length row)
-length-held row n = length-take n (map occurrenceOf row) ∙ ap (min n) (length-map row occurrenceOf)
+pub length-held : (ticks : List ℕ) (row : List (List ℕ)) (n : ℕ) → length (held ticks row n) ≡ min n (length row)
+length-held ticks row n = length-take n (map (occurrenceOf ticks) row) ∙ ap (min n) (length-map row (occurrenceOf ticks))
 
-pub held-at : (row : List (List ℕ)) (n i : ℕ) → i < n → i < length row → getD (held row n) i blank ≡ occurrenceOf (getD row i [])
-held-at row n i h k = getD-take n (map occurrenceOf row) i blank h ∙ getD-map occurrenceOf row i [] blank k
+pub held-at : (ticks : List ℕ) (row : List (List ℕ)) (n i : ℕ) → i < n → i < length row → getD (held ticks row n) i blank ≡ occurrenceOf ticks (getD row i [])
+held-at ticks row n i h k = getD-take n (map (occurrenceOf ticks) row) i blank h ∙ getD-map (occurrenceOf ticks) row i [] blank k
 
-pub held-more : (row : List (List ℕ)) (n : ℕ) (o : List ℕ) → n < length row → held (set row n o) (n + 1) ≡ held row n ++ (occurrenceOf o ∷ [])
-held-more row n o h =
-    ap (take (n + 1)) (map-set occurrenceOf row n o)
-    ∙ append-room (length row) (map occurrenceOf row) n (length-map row occurrenceOf) (occurrenceOf o) h
+pub held-more : (ticks : List ℕ) (row : List (List ℕ)) (n : ℕ) (o : List ℕ) → n < length row → held ticks (set row n o) (n + 1) ≡ held ticks row n ++ (occurrenceOf ticks o ∷ [])
+held-more ticks row n o h =
+    ap (take (n + 1)) (map-set (occurrenceOf ticks) row n o)
+    ∙ append-room (length row) (map (occurrenceOf ticks) row) n (length-map row (occurrenceOf ticks)) (occurrenceOf ticks o) h
 
 -- another at a place, as the whole row stands for it
-pub held-set : (row : List (List ℕ)) (n i : ℕ) (o : List ℕ) → held (set row i o) n ≡ take n (set (map occurrenceOf row) i (occurrenceOf o))
-held-set row n i o = ap (take n) (map-set occurrenceOf row i o)
+pub held-set : (ticks : List ℕ) (row : List (List ℕ)) (n i : ℕ) (o : List ℕ) → held ticks (set row i o) n ≡ take n (set (map (occurrenceOf ticks) row) i (occurrenceOf ticks o))
+held-set ticks row n i o = ap (take n) (map-set (occurrenceOf ticks) row i o)

@@ -16,7 +16,7 @@ use Rattle.timestamps.specs.declared.Timestamp.{Timestamp}
 use Rattle.timestamps.specs.Composite.{loggerPlaces, members, presentAt, tickZero}
 use Rattle.timestamps.proofs.Composite.{Holds, at-place, members-in, members-of}
 use Rattle.occurrences.specs.declared.Occurrence.{Occurrence}
-use Rattle.occurrences.specs.Packed.{occurrenceOf}
+use Rattle.occurrences.specs.Packed.{fromWords}
 use Rattle.occurrences.proofs.Combination.{same-occurrence}
 
 -- the word of a logger place
@@ -24,7 +24,7 @@ abbrev pub wordAt : List ℕ → ℕ → ℕ
 wordAt w k = getD w (2 + k) 0
 
 abbrev pub latestOf : List ℕ → CompositeTimestamp
-latestOf w = occurrenceOf w .latest
+latestOf w = fromWords w .latest
 
 -- its tick
 abbrev pub tickOf : ℕ → LocalTick
@@ -32,11 +32,11 @@ tickOf v = record { 0 = v - 1 }
 
 module _ (w : List ℕ) where
   pub present-at : (k : ℕ) → presentAt (latestOf w) k ≡ ltb 0 (wordAt w k)
-  unfolding occurrenceOf
+  unfolding fromWords
   present-at k = List·getD-map (ltb 0) (drop 2 w) k 0 ∙ ap (ltb 0) (getD-drop 2 w k 0)
 
   pub tick-at : (k : ℕ) → getD (latestOf w .ticks) k tickZero ≡ tickOf (wordAt w k)
-  unfolding occurrenceOf
+  unfolding fromWords
   tick-at k = List·getD-map tickOf (drop 2 w) k 0 ∙ ap tickOf (getD-drop 2 w k 0)
 
   -- the timestamps
@@ -59,7 +59,7 @@ module _ (w : List ℕ) where
   -- the whole, place by place
   pub latest-places : (p : ℕ → Bool) (t : ℕ → LocalTick) → length w ≡ 10 → ((k : ℕ) → k < 8 → ltb 0 (wordAt w k) ≡ p k) → ((k : ℕ) → k < 8 → tickOf (wordAt w k) ≡ t k)
       → latestOf w ≡ record { present = map p loggerPlaces; ticks = map t loggerPlaces }
-  unfolding occurrenceOf
+  unfolding fromWords
   latest-places p t n f g = λ i. record {
     present = ext-getD false (map (ltb 0) (drop 2 w)) (map p loggerPlaces) (eight (ltb 0) ∙ sym (places p)) (λ k h.
         let l : k < 8 = rw (eight (ltb 0)) at h in present-at k ∙ f k l ∙ sym (at-place p false k l)) i;
@@ -76,8 +76,8 @@ module _ (w : List ℕ) where
 -- what is unpacked
 pub unpacked-is : (w : List ℕ) (present : List Bool) (ticks : List LocalTick) → length w ≡ 10
     → present ≡ map (λ k. ltb 0 (wordAt w k)) loggerPlaces → ticks ≡ map (λ k. tickOf (wordAt w k)) loggerPlaces
-    → _≡_ {A = Occurrence} (record { latest = record { present = present; ticks = ticks }; events = record { low = getD w 0 0; high = getD w 1 0 } }) (occurrenceOf w)
-unfolding occurrenceOf
+    → _≡_ {A = Occurrence} (record { latest = record { present = present; ticks = ticks }; events = record { low = getD w 0 0; high = getD w 1 0 } }) (fromWords w)
+unfolding fromWords
 unpacked-is w present ticks n p q = same-occurrence
     ((λ i. record { present = p i; ticks = q i }) ∙ sym (latest-places w (λ k. ltb 0 (wordAt w k)) (λ k. tickOf (wordAt w k)) n (λ k l. refl) (λ k l. refl)))
     refl

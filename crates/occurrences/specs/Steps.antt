@@ -1,25 +1,23 @@
--- What the functions over the ten numbers compute, up to word n. Readers of the promises need none of these: the laws tie each to the definitions beside
--- this file. A word is a local tick plus one, or 0.
+-- What the functions over packed occurrences compute. Readers of the promises need none of these: the laws tie each to the definitions beside this file.
+-- A word is a local tick plus one, or 0; f has one for each logger place, and n is how many places are looked at.
 use mathlib.Core.Bool.{Bool, true, false}
 use mathlib.Core.List.{List}
 use mathlib.Core.Logic.{_⊎_}
 use mathlib.Core.Path.{_≡_}
-use Prim.Native.Nat.{ℕ, max, _+_, _-_, _*_, _/_, _≤_, _<_}
-use lib.Bits.{bitOr}
+use Prim.Native.Nat.{ℕ, _+_, _-_, _*_, _/_, _≤_, _<_}
 use lib.Dec.{eqb, ltb}
 use lib.ListN.{getD}
 use Rattle.sequences.specs.Choice.{pick}
+use Rattle.occurrences.specs.Packed.{byteAt}
 
--- the events of both, and of each logger the later timestamp
-pub record Merged (n : ℕ) (a b c : List ℕ) : Type 0 where
-  pub low : getD c 0 0 ≡ bitOr (getD a 0 0) (getD b 0 0)
-  pub high : getD c 1 0 ≡ bitOr (getD a 1 0) (getD b 1 0)
-  pub words : (j : ℕ) → 2 ≤ j → j < n → getD c j 0 ≡ max (getD a j 0) (getD b j 0)
+-- the word of a logger place: that of the event that the place's byte names
+abbrev pub tickAt : List ℕ → ℕ → ℕ → ℕ
+tickAt ticks w k = getD ticks (byteAt w k) 0
 
 -- the latest timestamp
-pub record Highest (n : ℕ) (c : List ℕ) (h : ℕ) : Type 0 where
-  pub most : (j : ℕ) → 2 ≤ j → j < n → getD c j 0 ≤ h
-  pub some : 0 < h → (j : ℕ) × (2 ≤ j) × (j < n) × (getD c j 0 ≡ h)
+pub record Highest (n : ℕ) (f : ℕ → ℕ) (h : ℕ) : Type 0 where
+  pub most : (k : ℕ) → k < n → f k ≤ h
+  pub some : 0 < h → (k : ℕ) × (k < n) × (f k ≡ h)
 
 -- the first word that is not clearly earlier than w
 unfoldable pub floorOf : ℕ → ℕ → ℕ
@@ -29,12 +27,6 @@ floorOf ratio w = pick (eqb ((w - 1) / ratio) 0) 1 (((w - 1) / ratio - 1) * rati
 unfoldable pub keptOf : ℕ → ℕ → ℕ
 keptOf f w = pick (ltb w f) 0 w
 
--- the events, and the timestamps that are not below f
-pub record Kept (n : ℕ) (f : ℕ) (c r : List ℕ) : Type 0 where
-  pub low : getD r 0 0 ≡ getD c 0 0
-  pub high : getD r 1 0 ≡ getD c 1 0
-  pub words : (j : ℕ) → 2 ≤ j → j < n → getD r j 0 ≡ keptOf f (getD c j 0)
-
 -- the earlier of two, where there are two
 pub record Lower (low w r : ℕ) : Type 0 where
   pub old : 0 < low → (0 < r) × (r ≤ low)
@@ -42,14 +34,18 @@ pub record Lower (low w r : ℕ) : Type 0 where
   pub one : (r ≡ low) ⊎ (r ≡ w)
 
 -- the earliest timestamp
-pub record Lowest (n : ℕ) (c : List ℕ) (low : ℕ) : Type 0 where
-  pub least : (j : ℕ) → 2 ≤ j → j < n → 0 < getD c j 0 → (0 < low) × (low ≤ getD c j 0)
-  pub some : 0 < low → (j : ℕ) × (2 ≤ j) × (j < n) × (getD c j 0 ≡ low)
+pub record Lowest (n : ℕ) (f : ℕ → ℕ) (low : ℕ) : Type 0 where
+  pub least : (k : ℕ) → k < n → 0 < f k → (0 < low) × (low ≤ f k)
+  pub some : 0 < low → (k : ℕ) × (k < n) × (f k ≡ low)
 
 -- v is before w on one clock
 unfoldable pub ownBefore : ℕ → ℕ → Bool
 ownBefore v w = pick (eqb v 0) false (ltb v w)
 
+-- low is one, and clearly earlier than w
+unfoldable pub clearOf : ℕ → ℕ → ℕ → Bool
+clearOf ratio low w = pick (eqb low 0) false (ltb low (floorOf ratio w))
+
 -- w has one before it, where it is one: v of its own logger, or the lowest of all
 unfoldable pub laterOf : ℕ → ℕ → ℕ → ℕ → Bool
-laterOf ratio low v w = pick (eqb w 0) true (pick (ownBefore v w) true (pick (eqb low 0) false (ltb low (floorOf ratio w))))
+laterOf ratio low v w = pick (eqb w 0) true (pick (ownBefore v w) true (clearOf ratio low w))

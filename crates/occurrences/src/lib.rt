@@ -1,13 +1,15 @@
-// Occurrences: a composite timestamp and a set of events, packed into ten numbers (specs/Packed.antt), and how they combine.
+// Occurrences: a composite timestamp and a set of events, packed into three numbers beside a table of ticks (specs/Packed.antt), and how they combine.
 use event_sets::EventSet;
 use timestamps::CompositeTimestamp;
 use timestamps::LocalTick;
+ghost use mathlib.Core.List.{List};
 ghost use mathlib.Core.Path.{_≡_};
-ghost use Prim.Native.Nat.{_<_, _-_, max};
+ghost use Prim.Native.Nat.{ℕ, _<_, _+_, _-_, _%_, _^_, max};
+ghost use lib.ListN.{getD};
 ghost use Rattle.occurrences.specs.Combination.{combinedOf};
 ghost use Rattle.occurrences.specs.Occurrences.{isBefore, ofEvent};
-ghost use Rattle.occurrences.specs.Packed.{occurrenceOf};
-ghost use Rattle.occurrences.specs.Steps.{Highest, Kept, Lower, Lowest, Merged, floorOf, keptOf, laterOf, ownBefore};
+ghost use Rattle.occurrences.specs.Packed.{byteAt, occurrenceOf, wordsOf};
+ghost use Rattle.occurrences.specs.Steps.{Highest, Lower, Lowest, clearOf, floorOf, keptOf, laterOf, ownBefore, tickAt};
 
 // Document 01's occurrence: its composite stamp and its events.
 pub struct Occurrence {
@@ -15,20 +17,36 @@ pub struct Occurrence {
     pub events: EventSet,
 }
 
-// A file event: one timestamp and its own number.
-pub fn of_event(logger: u8, tick: LocalTick, number: usize) -> [u64; 10]
-    requires { ⌜ tick .0 < 18446744073709551615 ⌝ }
-    ensures { λ r. ⌜ occurrenceOf r ≡ ofEvent (record { logger = logger; tick = tick }) number ⌝ }
+// A file event: one timestamp, which the table has at its number plus one, and its own number.
+pub fn of_event(logger: u8, number: usize) -> [u64; 3]
+    requires { ⌜ number < 128 ⌝ }
+    ensures { λ r. ⌜ ((ticks : List ℕ) (tick : ℕ) → getD ticks 0 0 ≡ 0 → getD ticks (number + 1) 0 ≡ tick + 1 → occurrenceOf ticks r ≡ ofEvent (record { logger = logger; tick = record { 0 = tick } }) number) ⌝ }
 {
     let none = EventSet::none();
     let events = event_sets::marked(none, number);
-    let mut c = [0u64; 10];
+    let mut c = [0u64; 3];
     c[0] = events.low;
     c[1] = events.high;
     if logger < 8 {
-        c[2 + logger as usize] = tick.0 + 1;
+        c[2] = (number as u64 + 1) << (8 * logger as usize);
     }
     c
+}
+
+// Which event has the timestamp of a logger place: its number plus one, 0 for none.
+fn event_at(w: u64, k: usize) -> usize
+    requires { ⌜ k < 8 ⌝ }
+    ensures { λ r. ⌜ (r ≡ byteAt w k) × (r < 256) ⌝ }
+{
+    ((w >> (8 * k)) % 256) as usize
+}
+
+// The timestamp at a logger place: its tick plus one, 0 for none.
+pub fn word_at(o: &[u64; 3], ticks: &[u64; 256], k: usize) -> u64
+    requires { ⌜ k < 8 ⌝ }
+    ensures { λ r. ⌜ r ≡ getD (wordsOf (now (ticks .entry)) (now (o .entry))) (2 + k) 0 ⌝ }
+{
+    ticks[event_at(o[2], k)]
 }
 
 fn tick_of(w: u64) -> LocalTick
@@ -41,21 +59,22 @@ fn tick_of(w: u64) -> LocalTick
     }
 }
 
-fn opened(o: [u64; 10]) -> Occurrence
-    ensures { λ r. ⌜ r ≡ occurrenceOf o ⌝ }
+// What the three numbers stand for.
+pub fn unpacked(o: &[u64; 3], ticks: &[u64; 256]) -> Occurrence
+    ensures { λ r. ⌜ r ≡ occurrenceOf (now (ticks .entry)) (now (o .entry)) ⌝ }
 {
     let mut present = [false; 8];
-    let mut ticks = [LocalTick(0); 8];
+    let mut those = [LocalTick(0); 8];
     let mut k: usize = 0;
     while k < 8 {
-        let w = o[2 + k];
+        let w = word_at(o, ticks, k);
         present[k] = 0 < w;
-        ticks[k] = tick_of(w);
+        those[k] = tick_of(w);
         k = k + 1;
     }
     let latest = CompositeTimestamp {
         present: present,
-        ticks: ticks,
+        ticks: those,
     };
     let events = EventSet {
         low: o[0],
@@ -67,14 +86,6 @@ fn opened(o: [u64; 10]) -> Occurrence
     }
 }
 
-// What the ten numbers stand for.
-pub fn unpacked(o: &[u64; 10]) -> Occurrence
-    ensures { λ r. ⌜ r ≡ occurrenceOf (now (o .entry)) ⌝ }
-{
-    let words = *o;
-    opened(words)
-}
-
 // ---- the join
 
 fn larger(a: u64, b: u64) -> u64
@@ -83,29 +94,36 @@ fn larger(a: u64, b: u64) -> u64
     if a < b { b } else { a }
 }
 
-// The events of both, and of each logger the later timestamp.
-fn merged(a: &[u64; 10], b: &[u64; 10]) -> [u64; 10]
-    ensures { λ r. ⌜ Merged 10 (now (a .entry)) (now (b .entry)) r ⌝ }
+// Of two events the one with the later timestamp.
+fn later_of(i: usize, j: usize, ticks: &[u64; 256]) -> usize
+    requires { ⌜ (i < 256) × (j < 256) ⌝ }
+    ensures { λ r. ⌜ (r < 256) × (getD (now (ticks .entry)) r 0 ≡ max (getD (now (ticks .entry)) i 0) (getD (now (ticks .entry)) j 0)) ⌝ }
 {
-    let mut c = [0u64; 10];
-    c[0] = a[0] | b[0];
-    c[1] = a[1] | b[1];
-    let mut k: usize = 2;
-    while k < 10 {
-        c[k] = larger(a[k], b[k]);
+    if ticks[i] < ticks[j] { j } else { i }
+}
+
+// Of each logger the later timestamp.
+fn merged(a: u64, b: u64, ticks: &[u64; 256]) -> u64
+    ensures { λ r. ⌜ ((k : ℕ) → k < 8 → tickAt (now (ticks .entry)) r k ≡ max (tickAt (now (ticks .entry)) a k) (tickAt (now (ticks .entry)) b k)) ⌝ }
+{
+    let mut r: u64 = 0;
+    let mut k: usize = 0;
+    while k < 8 {
+        let n = later_of(event_at(a, k), event_at(b, k), ticks);
+        r = r | (n as u64) << (8 * k);
         k = k + 1;
     }
-    c
+    r
 }
 
 // The latest of all timestamps, 0 where there is none.
-fn highest(c: &[u64; 10]) -> u64
-    ensures { λ r. ⌜ Highest 10 (now (c .entry)) r ⌝ }
+fn highest(c: u64, ticks: &[u64; 256]) -> u64
+    ensures { λ r. ⌜ Highest 8 (tickAt (now (ticks .entry)) c) r ⌝ }
 {
     let mut h: u64 = 0;
-    let mut k: usize = 2;
-    while k < 10 {
-        h = larger(h, c[k]);
+    let mut k: usize = 0;
+    while k < 8 {
+        h = larger(h, ticks[event_at(c, k)]);
         k = k + 1;
     }
     h
@@ -120,62 +138,65 @@ fn floor(w: u64, ratio: u64) -> u64
     if g.0 == 0 { 1 } else { (g.0 - 1) * ratio + 1 }
 }
 
-fn kept(w: u64, f: u64) -> u64
-    ensures { λ r. ⌜ r ≡ keptOf f w ⌝ }
+// The event i, unless its timestamp is below f.
+fn kept(i: usize, f: u64, ticks: &[u64; 256]) -> usize
+    requires { ⌜ (i < 256) × (getD (now ticks) 0 0 ≡ 0) ⌝ }
+    ensures { λ r. ⌜ (r < 256) × (getD (now (ticks .entry)) r 0 ≡ keptOf f (getD (now (ticks .entry)) i 0)) ⌝ }
 {
-    if w < f { 0 } else { w }
+    if ticks[i] < f { 0 } else { i }
 }
 
 // Those that are not below the floor.
-fn settled(c: [u64; 10], f: u64) -> [u64; 10]
-    ensures { λ r. ⌜ Kept 10 f c r ⌝ }
+fn settled(c: u64, f: u64, ticks: &[u64; 256]) -> u64
+    requires { ⌜ getD (now ticks) 0 0 ≡ 0 ⌝ }
+    ensures { λ r. ⌜ ((k : ℕ) → k < 8 → tickAt (now (ticks .entry)) r k ≡ keptOf f (tickAt (now (ticks .entry)) c k)) ⌝ }
 {
-    let mut r = c;
-    let mut k: usize = 2;
-    while k < 10 {
-        r[k] = kept(c[k], f);
+    let mut r: u64 = 0;
+    let mut k: usize = 0;
+    while k < 8 {
+        let n = kept(event_at(c, k), f, ticks);
+        r = r | (n as u64) << (8 * k);
         k = k + 1;
     }
     r
 }
 
 // The combination of two: the join of their timestamps and the union of their events.
-pub fn combined(a: &[u64; 10], b: &[u64; 10], ratio: u64) -> [u64; 10]
-    ensures { λ r. ⌜ occurrenceOf r ≡ combinedOf ratio (occurrenceOf (now (a .entry))) (occurrenceOf (now (b .entry))) ⌝ }
+pub fn combined(a: &[u64; 3], b: &[u64; 3], ticks: &[u64; 256], ratio: u64) -> [u64; 3]
+    requires { ⌜ getD (now ticks) 0 0 ≡ 0 ⌝ }
+    ensures { λ r. ⌜ occurrenceOf (now (ticks .entry)) r ≡ combinedOf ratio (occurrenceOf (now (ticks .entry)) (now (a .entry))) (occurrenceOf (now (ticks .entry)) (now (b .entry))) ⌝ }
 {
-    let c = merged(a, b);
-    let h = highest(&c);
+    let m = merged(a[2], b[2], ticks);
+    let h = highest(m, ticks);
     let f = floor(h, ratio);
-    settled(c, f)
+    let mut c = [0u64; 3];
+    c[0] = a[0] | b[0];
+    c[1] = a[1] | b[1];
+    c[2] = settled(m, f, ticks);
+    c
 }
 
 // ---- the order
 
-fn lower(low: u64, w: u64) -> u64
-    ensures { λ r. ⌜ Lower low w r ⌝ }
+// The earlier of two ticks; the largest number stands for none, which is one below the word 0.
+fn lower(low: u64, t: u64) -> u64
+    ensures { λ r. ⌜ Lower ((low + 1) % 2 ^ 64) ((t + 1) % 2 ^ 64) ((r + 1) % 2 ^ 64) ⌝ }
 {
-    if w == 0 {
-        low
-    } else if low == 0 {
-        w
-    } else if w < low {
-        w
-    } else {
-        low
-    }
+    if t < low { t } else { low }
 }
 
 // The earliest of all timestamps, 0 where there is none.
-fn lowest(c: &[u64; 10]) -> u64
-    ensures { λ r. ⌜ Lowest 10 (now (c .entry)) r ⌝ }
+fn lowest(o: &[u64; 3], ticks: &[u64; 256]) -> u64
+    ensures { λ r. ⌜ Lowest 8 (λ k. getD (wordsOf (now (ticks .entry)) (now (o .entry))) (2 + k) 0) r ⌝ }
 {
-    let mut low: u64 = 0;
-    let mut k: usize = 2;
-    while k < 10 {
-        low = lower(low, c[k]);
+    let mut low: u64 = 18446744073709551615;
+    let mut k: usize = 0;
+    while k < 8 {
+        let t = std::num::wrapping_sub_u64(word_at(o, ticks, k), 1);
+        low = lower(low, t);
         k = k + 1;
     }
-    low
+    std::num::wrapping_add_u64(low, 1)
 }
 
 // Whether v is one, and before w on one clock.
@@ -183,6 +204,26 @@ fn own_before(v: u64, w: u64) -> bool
     ensures { λ r. ⌜ r ≡ ownBefore v w ⌝ }
 {
     if v == 0 { false } else { v < w }
+}
+
+// Whether low is one, and clearly earlier than w. Only where their distance does not decide it is there a division.
+fn clearly(low: u64, w: u64, ratio: u64) -> bool
+    ensures { λ r. ⌜ r ≡ clearOf ratio low w ⌝ }
+{
+    if low == 0 {
+        return false;
+    }
+    if w <= low {
+        return false;
+    }
+    let d = w - low;
+    if d <= ratio {
+        return false;
+    }
+    if ratio <= d - ratio {
+        return 0 < ratio;
+    }
+    low < floor(w, ratio)
 }
 
 // Whether w, if it is one, has a timestamp before it: of its own logger v, or of any the lowest.
@@ -195,20 +236,17 @@ fn later(low: u64, v: u64, w: u64, ratio: u64) -> bool
     if own_before(v, w) {
         return true;
     }
-    if low == 0 {
-        return false;
-    }
-    low < floor(w, ratio)
+    clearly(low, w, ratio)
 }
 
 // Whether the first one's composite timestamp is before the second's.
-pub fn before(a: &[u64; 10], b: &[u64; 10], ratio: u64) -> bool
-    ensures { λ r. ⌜ r ≡ isBefore ratio (occurrenceOf (now (a .entry))) (occurrenceOf (now (b .entry))) ⌝ }
+pub fn before(a: &[u64; 3], b: &[u64; 3], ticks: &[u64; 256], ratio: u64) -> bool
+    ensures { λ r. ⌜ r ≡ isBefore ratio (occurrenceOf (now (ticks .entry)) (now (a .entry))) (occurrenceOf (now (ticks .entry)) (now (b .entry))) ⌝ }
 {
-    let low = lowest(a);
-    let mut k: usize = 2;
-    while k < 10 {
-        if !later(low, a[k], b[k], ratio) {
+    let low = lowest(a, ticks);
+    let mut k: usize = 0;
+    while k < 8 {
+        if !later(low, word_at(a, ticks, k), word_at(b, ticks, k), ratio) {
             return false;
         }
         k = k + 1;

@@ -1,30 +1,26 @@
 -- The join call's steps give its answer.
-use mathlib.Core.Path.{_≡_, refl, sym, ap, _∙_}
-use mathlib.Core.Bool.{Bool, true, false, not}
+use mathlib.Core.Path.{_≡_, refl, ap, _∙_}
+use mathlib.Core.Bool.{true, false, not}
 use mathlib.Core.List.{List, [], _∷_}
 use mathlib.Core.Logic.{⊎-elim}
 use Prim.Native.Nat.{ℕ, suc, _+_}
 use native.Mathlib.Omega.{arith}
-use lib.ListN.{length}
-use Rattle.sequences.specs.Choice.{pick}
+use lib.ListN.{length, replicate}
+use Rattle.sequences.specs.Loops.{fold}
 use Rattle.sequences.specs.Select.{all}
 use Rattle.sequences.proofs.Booleans.{either-way, never-both, and-left, and-right}
 use Rattle.sequences.proofs.Loops.{fold-none, fold-next}
 use Rattle.timestamps.specs.declared.Timestamp.{Timestamp}
-use Rattle.timestamps.specs.declared.CompositeTimestamp.{CompositeTimestamp}
-use Rattle.timestamps.specs.Composite.{members, noTimestamps}
-use Rattle.timestamps.specs.Join.{joinOf}
 use Rattle.timestamps.specs.Order.{valid, validRatio}
-use Rattle.timestamps.specs.Steps.{addedTo, latestIn}
 use Rattle.timestamps.proofs.Groupings.{valid-placeable}
 use Rattle.timestamps.proofs.Join.{joinOf-list}
-use Rattle.open_calls.specs.declared.JoinAnswer.{JoinAnswer}
 use Rattle.open_calls.specs.declared.Joining.{Joining}
-use Rattle.open_calls.specs.declared.Verdict.{Verdict}
-use Rattle.open_calls.specs.declared.Verdict.the-variants.{Accepted, BadRatio, BadLength, BadEntry, NotConcurrent}
-use Rattle.open_calls.specs.Answers.{numberOf, refusal, validLength, shown, refusedJoin, firstInvalid, joinAnswer}
+use Rattle.open_calls.specs.declared.Verdict.the-variants.{Accepted, BadEntry}
+use Rattle.open_calls.specs.Answers.{numberOf, refusal, validLength, refusedJoin, firstInvalid, joinAnswer}
 use Rattle.open_calls.specs.Steps.{joinVerdict, nothingJoined, joinStart, joinStep, foldJoin, joinDone, joinRun}
+use Rattle.open_calls.specs.Marks.{raisedBy}
 use Rattle.open_calls.proofs.Folds.{join-none, join-next}
+use Rattle.open_calls.proofs.Marks.{latest-is, none-is}
 
 -- ---- the fold: after a bad entry nothing changes
 still : (i : ℕ) (a : Joining) (l : List Timestamp) → refusal (a .verdict) ≡ true → foldJoin i a l ≡ a
@@ -33,13 +29,13 @@ still i a [] r = join-none i a
 still i a (s ∷ l) r = join-next i a s l ∙ rw r (still (suc i) a l r)
 
 -- every entry passes: the latest of each logger
-all-good : (i : ℕ) (c : CompositeTimestamp) (l : List Timestamp) → all valid l ≡ true
-    → foldJoin i (record { verdict = Accepted; place = 0; latest = c }) l ≡ record { verdict = Accepted; place = 0; latest = latestIn c l }
-unfolding all joinStep latestIn refusal numberOf
-all-good i c [] h = join-none i (record { verdict = Accepted; place = 0; latest = c }) ∙ rw (fold-none addedTo c)
-all-good i c (s ∷ l) h =
-    join-next i (record { verdict = Accepted; place = 0; latest = c }) s l
-    ∙ rw (and-left (valid s) (all valid l) h, fold-next addedTo s l c) (all-good (suc i) (addedTo c s) l (and-right (valid s) (all valid l) h))
+all-good : (i : ℕ) (m : List ℕ) (l : List Timestamp) → all valid l ≡ true
+    → foldJoin i (record { verdict = Accepted; place = 0; marks = m }) l ≡ record { verdict = Accepted; place = 0; marks = fold raisedBy l m }
+unfolding all joinStep refusal numberOf
+all-good i m [] h = join-none i (record { verdict = Accepted; place = 0; marks = m }) ∙ rw (fold-none raisedBy m)
+all-good i m (s ∷ l) h =
+    join-next i (record { verdict = Accepted; place = 0; marks = m }) s l
+    ∙ rw (and-left (valid s) (all valid l) h, fold-next raisedBy s l m) (all-good (suc i) (raisedBy m s) l (and-right (valid s) (all valid l) h))
 
 -- some entry does not: its place
 pub record Bad (i : ℕ) (l : List Timestamp) (a : Joining) : Type 0 where
@@ -54,17 +50,17 @@ first-bad : (s : Timestamp) (l : List Timestamp) → valid s ≡ false → first
 unfolding firstInvalid
 first-bad s l n = rw n
 
-some-bad : (i : ℕ) (c : CompositeTimestamp) (l : List Timestamp) → all valid l ≡ false → Bad i l (foldJoin i (record { verdict = Accepted; place = 0; latest = c }) l)
+some-bad : (i : ℕ) (m : List ℕ) (l : List Timestamp) → all valid l ≡ false → Bad i l (foldJoin i (record { verdict = Accepted; place = 0; marks = m }) l)
 unfolding all joinStep refusal numberOf
-some-bad i c [] h = absurd (never-both refl h)
-some-bad i c (s ∷ l) h = rw (join-next i (record { verdict = Accepted; place = 0; latest = c }) s l) (⊎-elim (λ y. passes y (some-bad (suc i) (addedTo c s) l (rw y at h))) fails (either-way (valid s)))
+some-bad i m [] h = absurd (never-both refl h)
+some-bad i m (s ∷ l) h = rw (join-next i (record { verdict = Accepted; place = 0; marks = m }) s l) (⊎-elim (λ y. passes y (some-bad (suc i) (raisedBy m s) l (rw y at h))) fails (either-way (valid s)))
   where
-    passes : valid s ≡ true → Bad (suc i) l (foldJoin (suc i) (record { verdict = Accepted; place = 0; latest = addedTo c s }) l)
-        → Bad i (s ∷ l) (foldJoin (suc i) (joinStep (record { verdict = Accepted; place = 0; latest = c }) s i) l)
+    passes : valid s ≡ true → Bad (suc i) l (foldJoin (suc i) (record { verdict = Accepted; place = 0; marks = raisedBy m s }) l)
+        → Bad i (s ∷ l) (foldJoin (suc i) (joinStep (record { verdict = Accepted; place = 0; marks = m }) s i) l)
     passes y b = rw y (record { verdict = b .verdict; place = b .place ∙ omega (arith, first-good s l y) })
 
-    fails : valid s ≡ false → Bad i (s ∷ l) (foldJoin (suc i) (joinStep (record { verdict = Accepted; place = 0; latest = c }) s i) l)
-    fails n = rw (n, still (suc i) (record { verdict = BadEntry; place = i; latest = c }) l refl) (record { verdict = refl; place = omega (arith, first-bad s l n) })
+    fails : valid s ≡ false → Bad i (s ∷ l) (foldJoin (suc i) (joinStep (record { verdict = Accepted; place = 0; marks = m }) s i) l)
+    fails n = rw (n, still (suc i) (record { verdict = BadEntry; place = i; marks = m }) l refl) (record { verdict = refl; place = omega (arith, first-bad s l n) })
 
 -- ---- the answer
 pub join-is : (ratio : ℕ) (l : List Timestamp) → joinRun ratio l ≡ joinAnswer ratio l
@@ -78,9 +74,9 @@ join-is ratio l = ⊎-elim (λ r. ⊎-elim (λ n. ⊎-elim (good r n) (bad r n) 
     length-bad r n = rw (r, n)
 
     good : validRatio ratio ≡ true → validLength (length l) ≡ true → all valid l ≡ true → joinRun ratio l ≡ joinAnswer ratio l
-    good r n v = rw (r, n, v, all-good 0 noTimestamps l v, joinOf-list ratio l (valid-placeable l v))
+    good r n v = rw (r, n, v, all-good 0 (replicate 8 0) l v, latest-is (replicate 8 0) l v, none-is, joinOf-list ratio l (valid-placeable l v))
 
     bad : validRatio ratio ≡ true → validLength (length l) ≡ true → all valid l ≡ false → joinRun ratio l ≡ joinAnswer ratio l
     bad r n v =
-        let b : Bad 0 l (foldJoin 0 nothingJoined l) = some-bad 0 noTimestamps l v in
+        let b : Bad 0 l (foldJoin 0 nothingJoined l) = some-bad 0 (replicate 8 0) l v in
         rw (r, n, v, b .verdict, b .place) (ap (refusedJoin BadEntry) (omega arith))

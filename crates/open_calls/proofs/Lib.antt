@@ -1,3 +1,5 @@
-pub mod Comparisons
+pub mod Clear
 pub mod Folds
 pub mod Joins
+pub mod Marks
+pub mod Settled

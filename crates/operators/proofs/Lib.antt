@@ -1,3 +1,2 @@
-pub mod Arrivals
-pub mod Each
+pub mod Dispatch
 pub mod Turns

@@ -22,9 +22,11 @@ use Rattle.plans.specs.declared.Node.{Node}
 use Rattle.emissions.specs.declared.Limit.the-variants.{None, ListFull}
 use Rattle.emissions.specs.Emissions.{Emitting, emitted, emittedAll, ended, numberOf, reached}
 use Rattle.emissions.proofs.Limits.{emitted-still}
+use Rattle.arrivals.specs.Arrivals.{Met, Setting, Sides, andArrived, metBy}
+use Rattle.arrivals.proofs.Arrivals.{and-still, met-still, wait-full, wait-goes, wait-stopped}
 use Rattle.operators.specs.Steps.{andTurn, begun, meeting, metStep, orTurn, seqTurn, sides, sidesStep, swapped, waitStep}
-use Rattle.operators.specs.Turns.{Met, Setting, Sides, Turned, andArrived, arrived, leftSides, metBy, nodeTurn, orArrived, rightSides, seqLeft, seqRight}
-use Rattle.operators.proofs.Arrivals.{and-still, arrive-and-left, arrive-and-right, arrive-or, arrive-seq-left, arrive-seq-right, arrive-stopped, met-still, wait-full, wait-goes, wait-stopped}
+use Rattle.operators.specs.Turns.{Turned, arrived, leftSides, nodeTurn, orArrived, rightSides, seqLeft, seqRight}
+use Rattle.operators.proofs.Dispatch.{arrive-and-left, arrive-and-right, arrive-or, arrive-seq-left, arrive-seq-right, arrive-stopped}
 
 -- a fold seen through g
 fold-through : {S T A : Type 0} (g : T → S) (f : S → A → S) (h : T → A → T) → ((t : T) (a : A) → f (g t) a ≡ g (h t a)) → (l : List A) (t : T) → fold f l (g t) ≡ g (fold h l t)
@@ -32,12 +34,12 @@ fold-through g f h e [] t = fold-none f (g t) ∙ ap g (sym (fold-none h t))
 fold-through g f h e (a ∷ l) t = fold-next f a l (g t) ∙ ap (fold f l) (e t a) ∙ fold-through g f h e l (h t a) ∙ ap g (sym (fold-next h a l t))
 
 -- a loop over the first of a row of arrivals
-module _ {S : Type 0} (f : S → Occurrence → S) (row : List (List ℕ)) (count n i : ℕ) (counted : n ≡ min count (length row)) where
-  pub arrival-turn : (s s′ : S) → i < n → s′ ≡ f s (occurrenceOf (getD row i [])) → fold f (drop (i + 1) (held row count)) s′ ≡ fold f (drop i (held row count)) s
-  arrival-turn s s′ h e = fold-turn f (held row count) i s s′ blank (omega (arith, length-held row count)) (e ∙ ap (f s) (sym (held-at row count i (omega arith) (omega arith))))
+module _ {S : Type 0} (f : S → Occurrence → S) (ticks : List ℕ) (row : List (List ℕ)) (count n i : ℕ) (counted : n ≡ min count (length row)) where
+  pub arrival-turn : (s s′ : S) → i < n → s′ ≡ f s (occurrenceOf ticks (getD row i [])) → fold f (drop (i + 1) (held ticks row count)) s′ ≡ fold f (drop i (held ticks row count)) s
+  arrival-turn s s′ h e = fold-turn f (held ticks row count) i s s′ blank (omega (arith, length-held ticks row count)) (e ∙ ap (f s) (sym (held-at ticks row count i (omega arith) (omega arith))))
 
-  pub arrival-end : (s : S) → n ≤ i → fold f (drop i (held row count)) s ≡ s
-  arrival-end s h = fold-end f (held row count) i s (omega (arith, length-held row count))
+  pub arrival-end : (s : S) → n ≤ i → fold f (drop i (held ticks row count)) s ≡ s
+  arrival-end s h = fold-end f (held ticks row count) i s (omega (arith, length-held ticks row count))
 
 abbrev pub turn : List Occurrence → List Occurrence → Emitting → Turned
 turn left right e = record { left = left; right = right; emit = e }
@@ -137,7 +139,7 @@ one-waits w e o h k = sym (wait-goes w e o (appendedTo w o) h (appended-room w o
 
 one-more : (w : List Occurrence) (e : Emitting) (o : Occurrence) → reached (e .limit) ≡ false → 16 ≤ length w → waitStep (meeting w e) o ≡ meeting w (ended e (numberOf ListFull))
 unfolding waitStep
-one-more w e o h k = sym (wait-full w e o h (appended-full w o k .0))
+one-more w e o h k = sym (wait-full w e o (ended e (numberOf ListFull)) h (appended-full w o k .0) refl)
 
 longer : (w : List Occurrence) (o : Occurrence) → length w < 16 → length (appendedTo w o) ≡ length w + 1
 longer w o k = ap length (appended-room w o k .1) ∙ length-append w (o ∷ [])

@@ -7,7 +7,8 @@ use Rattle.contexts.specs.Choice.{seqCandidates}
 use Rattle.plans.specs.declared.Node.{Node}
 use Rattle.emissions.specs.declared.Limit.the-variants.{None}
 use Rattle.emissions.specs.Emissions.{Emitting, emittedAll, numberOf}
-use Rattle.operators.specs.Turns.{Met, Setting, Sides, Turned, andArrived, metBy, rightSides, waited}
+use Rattle.arrivals.specs.Arrivals.{Met, Setting, Sides, andArrived, metBy, waited}
+use Rattle.operators.specs.Turns.{Turned, rightSides}
 
 -- nothing made yet
 abbrev pub begun : ℕ → List ℕ → Emitting

@@ -1,283 +1,31 @@
-// A node's turn: OR, AND and SEQ, arrival by arrival, until a limit ends the work. Waiting lists and what the node makes are rows that are
-// lent; a turn says how many of each there are then.
+// A node's turn: OR, AND and SEQ, all arrivals of its inputs, until a limit ends the work. Waiting lists and what the node makes are rows
+// that are lent; a turn says how many of each there are then.
+use arrivals::ListTurn;
+use arrivals::SidesTurn;
 use emissions::Emit;
 use emissions::Limit;
 use plans::Node;
-ghost use mathlib.Core.List.{List, [], map};
+ghost use mathlib.Core.List.{List, []};
 ghost use mathlib.Core.Path.{_≡_};
 ghost use Prim.Native.Nat.{ℕ, min, _+_, _≤_, _<_};
 ghost use lib.Dec.{ltb};
 ghost use lib.ListN.{getD, length, take};
 ghost use Rattle.sequences.specs.Loops.{fold};
-ghost use Rattle.sequences.specs.Marks.{marked};
 ghost use Rattle.detections.specs.Writing.{Beyond};
-ghost use Rattle.occurrences.specs.declared.Occurrence.{Occurrence};
-ghost use Rattle.occurrences.specs.Combination.{combinedOf};
-ghost use Rattle.occurrences.specs.Packed.{held, occurrenceOf};
-ghost use Rattle.contexts.specs.Choice.{andCandidates};
-ghost use Rattle.contexts.specs.Made.{madeOf};
-ghost use Rattle.contexts.specs.Table.{rowOf, together};
-ghost use Rattle.emissions.specs.declared.Limit.the-variants.{ListFull};
-ghost use Rattle.emissions.specs.Emissions.{emitOf, emittedAll, ended, numberOf};
+ghost use Rattle.occurrences.specs.Packed.{held};
+ghost use Rattle.emissions.specs.Emissions.{emitOf, emittedAll, numberOf};
 ghost use Rattle.waiting_lists.specs.Waiting.{appendedTo};
+ghost use Rattle.arrivals.specs.Arrivals.{settingOf};
+ghost use Rattle.arrivals.specs.Views.{metOf, sidesOf};
 ghost use Rattle.operators.specs.Steps.{andTurn, begun, meeting, metStep, orTurn, seqTurn, sides, sidesStep};
-ghost use Rattle.operators.specs.Turns.{andArrived, joinsBy, metBy, nodeTurn, settingOf, waited};
-ghost use Rattle.operators.specs.Views.{metOf, sidesOf, turnOf};
+ghost use Rattle.operators.specs.Turns.{nodeTurn};
+ghost use Rattle.operators.specs.Views.{turnOf};
 
 // How many wait on a node's left and right after its turn, and what it has made from this event.
 pub struct Turn {
     pub left: usize,
     pub right: usize,
     pub emit: Emit,
-}
-
-// How many wait in one list after an arrival, and what was made.
-pub struct ListTurn {
-    pub waiting: usize,
-    pub emit: Emit,
-}
-
-// The arrival's own side and the other one.
-pub struct SidesTurn {
-    pub own: usize,
-    pub other: usize,
-    pub emit: Emit,
-}
-
-// ---- an arrival meets those that wait, and may wait itself
-
-// One finding for each taken, in waiting order.
-fn emit_each(
-    e: Emit,
-    made: &mut [[u64; 10]; 8],
-    list: &[[u64; 10]; 16],
-    waiting: usize,
-    taken: [bool; 16],
-    o: &[u64; 10],
-    place: u64,
-    ratio: u64,
-    loggers: &[u64; 8],
-    out: &mut [u8],
-) -> Emit
-    requires { ⌜ (e .at ≤ length (now out)) × (e .findings ≤ e .at) ⌝ }
-    ensures { λ r. ⌜ (emitOf r (now (made .exit)) (now (out .exit)) ≡ emittedAll (length (now (out .entry))) (now (loggers .entry)) place (emitOf e (now (made .entry)) (now (out .entry))) (map (λ w. combinedOf ratio w (occurrenceOf (now (o .entry)))) (marked (held (now (list .entry)) waiting) taken))) × Beyond (now (out .entry)) (now (out .exit)) (e .at) (r .findings) (r .at) ⌝ }
-{
-    let n = waiting_lists::count(waiting);
-    let row = &list[..];
-    let mut f = e;
-    let mut i: usize = 0;
-    while i < n {
-        let next = i + 1;
-        if taken[i] {
-            let c = occurrences::combined(&row[i], o, ratio);
-            f = emissions::emit_one(f, made, place, &c, loggers, out);
-        }
-        i = next;
-    }
-    f
-}
-
-// One finding for all taken together, if any is.
-fn emit_together(
-    e: Emit,
-    made: &mut [[u64; 10]; 8],
-    list: &[[u64; 10]; 16],
-    waiting: usize,
-    taken: [bool; 16],
-    o: &[u64; 10],
-    place: u64,
-    ratio: u64,
-    loggers: &[u64; 8],
-    out: &mut [u8],
-) -> Emit
-    requires { ⌜ (e .at ≤ length (now out)) × (e .findings ≤ e .at) ⌝ }
-    ensures { λ r. ⌜ (emitOf r (now (made .exit)) (now (out .exit)) ≡ emittedAll (length (now (out .entry))) (now (loggers .entry)) place (emitOf e (now (made .entry)) (now (out .entry))) (madeOf together ratio (marked (held (now (list .entry)) waiting) taken) (occurrenceOf (now (o .entry))))) × Beyond (now (out .entry)) (now (out .exit)) (e .at) (r .findings) (r .at) ⌝ }
-{
-    let first = waiting_lists::first_marked(taken);
-    let n = waiting_lists::count_in(list, waiting);
-    if n <= first {
-        return e;
-    }
-    let all = contexts::all_combined(list, waiting, taken, o, ratio);
-    emissions::emit_one(e, made, place, &all, loggers, out)
-}
-
-// What an arrival makes of those taken, by the context.
-fn emit_made(
-    e: Emit,
-    made: &mut [[u64; 10]; 8],
-    list: &[[u64; 10]; 16],
-    waiting: usize,
-    taken: [bool; 16],
-    o: &[u64; 10],
-    context: u64,
-    place: u64,
-    ratio: u64,
-    loggers: &[u64; 8],
-    out: &mut [u8],
-) -> Emit
-    requires { ⌜ (e .at ≤ length (now out)) × (e .findings ≤ e .at) ⌝ }
-    ensures { λ r. ⌜ (emitOf r (now (made .exit)) (now (out .exit)) ≡ emittedAll (length (now (out .entry))) (now (loggers .entry)) place (emitOf e (now (made .entry)) (now (out .entry))) (madeOf (rowOf context .finds) ratio (marked (held (now (list .entry)) waiting) taken) (occurrenceOf (now (o .entry))))) × Beyond (now (out .entry)) (now (out .exit)) (e .at) (r .findings) (r .at) ⌝ }
-{
-    if contexts::makes_each(context) {
-        emit_each(e, made, list, waiting, taken, o, place, ratio, loggers, out)
-    } else {
-        emit_together(e, made, list, waiting, taken, o, place, ratio, loggers, out)
-    }
-}
-
-// An arrival meets its candidates: findings first, then the removal.
-fn meet(
-    list: &mut [[u64; 10]; 16],
-    waiting: usize,
-    candidates: [bool; 16],
-    e: Emit,
-    made: &mut [[u64; 10]; 8],
-    o: &[u64; 10],
-    node: Node,
-    place: u64,
-    ratio: u64,
-    loggers: &[u64; 8],
-    out: &mut [u8],
-) -> ListTurn
-    requires { ⌜ (e .at ≤ length (now out)) × (e .findings ≤ e .at) ⌝ }
-    ensures { λ r. ⌜ (metOf r (now (list .exit)) (now (made .exit)) (now (out .exit)) ≡ metBy (settingOf (length (now (out .entry))) ratio (now (loggers .entry))) node place (held (now (list .entry)) waiting) candidates (emitOf e (now (made .entry)) (now (out .entry))) (occurrenceOf (now (o .entry)))) × Beyond (now (out .entry)) (now (out .exit)) (e .at) (r .emit .findings) (r .emit .at) ⌝ }
-{
-    let first = waiting_lists::first_marked(candidates);
-    let row = &list[..];
-    if row.len() <= first {
-        return ListTurn {
-            waiting: waiting,
-            emit: e,
-        };
-    }
-    let choice = contexts::choose(node.context, list, waiting, candidates, ratio);
-    let taken = choice.taken;
-    let removed = choice.removed;
-    let f = emit_made(
-        e,
-        made,
-        list,
-        waiting,
-        taken,
-        o,
-        node.context,
-        place,
-        ratio,
-        loggers,
-        out,
-    );
-    let limit = f.limit;
-    if emissions::is_reached(limit) {
-        return ListTurn {
-            waiting: waiting,
-            emit: f,
-        };
-    }
-    let rest = waiting_lists::remove_from(list, waiting, removed);
-    ListTurn {
-        waiting: rest,
-        emit: f,
-    }
-}
-
-// 31: the list already holds 16.
-fn full(e: Emit) -> Emit
-    ensures { λ r. ⌜ (((made : List (List ℕ)) (out : List ℕ) → emitOf r made out ≡ ended (emitOf e made out) (numberOf ListFull)) × (r .at ≡ e .at) × (r .findings ≡ e .findings)) ⌝ }
-{
-    Emit {
-        limit: Limit::ListFull,
-        made: e.made,
-        findings: e.findings,
-        at: e.at,
-    }
-}
-
-// An arrival waits: 31 where the list already holds 16.
-fn wait(list: &mut [[u64; 10]; 16], waiting: usize, e: Emit, o: &[u64; 10]) -> ListTurn
-    ensures { λ r. ⌜ (((made : List (List ℕ)) (out : List ℕ) → metOf r (now (list .exit)) made out ≡ waited (held (now (list .entry)) waiting) (emitOf e made out) (occurrenceOf (now (o .entry)))) × (r .emit .at ≡ e .at) × (r .emit .findings ≡ e .findings)) ⌝ }
-{
-    let limit = e.limit;
-    if emissions::is_reached(limit) {
-        return ListTurn {
-            waiting: waiting,
-            emit: e,
-        };
-    }
-    let row = &list[..];
-    if row.len() <= waiting {
-        let f = full(e);
-        return ListTurn {
-            waiting: waiting,
-            emit: f,
-        };
-    }
-    let next = waiting_lists::append_to(list, waiting, o);
-    ListTurn {
-        waiting: next,
-        emit: e,
-    }
-}
-
-// Whether an arrival at an AND node joins its own side's list, where this many wait on the other.
-fn does_join(context: u64, waiting: usize) -> bool
-    ensures { λ r. ⌜ ((l : List Occurrence) → length l ≡ min waiting 16 → r ≡ joinsBy context (andCandidates l)) ⌝ }
-{
-    if context == Node::RECENT {
-        true
-    } else {
-        waiting == 0
-    }
-}
-
-// One side of an AND node.
-fn and_arrival(
-    own: &mut [[u64; 10]; 16],
-    here: usize,
-    other: &mut [[u64; 10]; 16],
-    there: usize,
-    e: Emit,
-    made: &mut [[u64; 10]; 8],
-    o: &[u64; 10],
-    node: Node,
-    place: u64,
-    ratio: u64,
-    loggers: &[u64; 8],
-    out: &mut [u8],
-) -> SidesTurn
-    requires { ⌜ (e .at ≤ length (now out)) × (e .findings ≤ e .at) ⌝ }
-    ensures { λ r. ⌜ (sidesOf r (now (own .exit)) (now (other .exit)) (now (made .exit)) (now (out .exit)) ≡ andArrived (settingOf (length (now (out .entry))) ratio (now (loggers .entry))) node place (held (now (own .entry)) here) (held (now (other .entry)) there) (emitOf e (now (made .entry)) (now (out .entry))) (occurrenceOf (now (o .entry)))) × Beyond (now (out .entry)) (now (out .exit)) (e .at) (r .emit .findings) (r .emit .at) ⌝ }
-{
-    let n = waiting_lists::count_in(other, there);
-    let candidates = contexts::all_waiting(n);
-    let m = meet(
-        other,
-        there,
-        candidates,
-        e,
-        made,
-        o,
-        node,
-        place,
-        ratio,
-        loggers,
-        out,
-    );
-    let f = m.emit;
-    if does_join(node.context, n) {
-        let w = wait(own, here, f, o);
-        let g = w.emit;
-        return SidesTurn {
-            own: w.waiting,
-            other: m.waiting,
-            emit: g,
-        };
-    }
-    SidesTurn {
-        own: here,
-        other: m.waiting,
-        emit: f,
-    }
 }
 
 // ---- all arrivals of one input, in the order made
@@ -292,21 +40,22 @@ fn up_to(count: usize, places: usize) -> usize
 // OR passes each on as a finding.
 fn or_all(
     e: Emit,
-    made: &mut [[u64; 10]; 8],
-    arrivals: &[[u64; 10]; 8],
+    made: &mut [[u64; 3]; 8],
+    arrivals: &[[u64; 3]; 8],
     count: usize,
     place: u64,
+    ticks: &[u64; 256],
     loggers: &[u64; 8],
     out: &mut [u8],
 ) -> Emit
     requires { ⌜ (e .at ≤ length (now out)) × (e .findings ≤ e .at) ⌝ }
-    ensures { λ r. ⌜ (emitOf r (now (made .exit)) (now (out .exit)) ≡ emittedAll (length (now (out .entry))) (now (loggers .entry)) place (emitOf e (now (made .entry)) (now (out .entry))) (held (now (arrivals .entry)) count)) × Beyond (now (out .entry)) (now (out .exit)) (e .at) (r .findings) (r .at) ⌝ }
+    ensures { λ r. ⌜ (emitOf (now (ticks .entry)) r (now (made .exit)) (now (out .exit)) ≡ emittedAll (length (now (out .entry))) (now (loggers .entry)) place (emitOf (now (ticks .entry)) e (now (made .entry)) (now (out .entry))) (held (now (ticks .entry)) (now (arrivals .entry)) count)) × Beyond (now (out .entry)) (now (out .exit)) (e .at) (r .findings) (r .at) ⌝ }
 {
     let n = up_to(count, arrivals[..].len());
     let mut f = e;
     let mut i: usize = 0;
     while i < n {
-        f = emissions::emit_one(f, made, place, &arrivals[i], loggers, out);
+        f = emissions::emit_one(f, made, place, &arrivals[i], ticks, loggers, out);
         i = i + 1;
     }
     f
@@ -314,12 +63,12 @@ fn or_all(
 
 // Each waits; a full list stays as it is.
 fn wait_all(
-    list: &mut [[u64; 10]; 16],
+    list: &mut [[u64; 3]; 16],
     waiting: usize,
-    arrivals: &[[u64; 10]; 8],
+    arrivals: &[[u64; 3]; 8],
     count: usize,
 ) -> usize
-    ensures { λ r. ⌜ held (now (list .exit)) r ≡ fold appendedTo (held (now (arrivals .entry)) count) (held (now (list .entry)) waiting) ⌝ }
+    ensures { λ r. ⌜ ((ticks : List ℕ) → held ticks (now (list .exit)) r ≡ fold appendedTo (held ticks (now (arrivals .entry)) count) (held ticks (now (list .entry)) waiting)) ⌝ }
 {
     let n = up_to(count, arrivals[..].len());
     let mut l = waiting;
@@ -332,13 +81,8 @@ fn wait_all(
 }
 
 // Whether they are too many to wait all.
-fn overflows(
-    list: &[[u64; 10]; 16],
-    waiting: usize,
-    arrivals: &[[u64; 10]; 8],
-    count: usize,
-) -> bool
-    ensures { λ r. ⌜ (r ≡ ltb 16 (length (held (now (list .entry)) waiting) + length (held (now (arrivals .entry)) count))) × (length (held (now (list .entry)) waiting) ≤ 16) ⌝ }
+fn overflows(list: &[[u64; 3]; 16], waiting: usize, arrivals: &[[u64; 3]; 8], count: usize) -> bool
+    ensures { λ r. ⌜ ((ticks : List ℕ) → (r ≡ ltb 16 (length (held ticks (now (list .entry)) waiting) + length (held ticks (now (arrivals .entry)) count))) × (length (held ticks (now (list .entry)) waiting) ≤ 16)) ⌝ }
 {
     let a = up_to(waiting, list[..].len());
     let b = up_to(count, arrivals[..].len());
@@ -347,28 +91,29 @@ fn overflows(
 
 // On the right of a SEQ node.
 fn meet_all(
-    list: &mut [[u64; 10]; 16],
+    list: &mut [[u64; 3]; 16],
     waiting: usize,
     e: Emit,
-    made: &mut [[u64; 10]; 8],
-    arrivals: &[[u64; 10]; 8],
+    made: &mut [[u64; 3]; 8],
+    arrivals: &[[u64; 3]; 8],
     count: usize,
     node: Node,
     place: u64,
     ratio: u64,
+    ticks: &[u64; 256],
     loggers: &[u64; 8],
     out: &mut [u8],
 ) -> ListTurn
-    requires { ⌜ (e .at ≤ length (now out)) × (e .findings ≤ e .at) ⌝ }
-    ensures { λ r. ⌜ (metOf r (now (list .exit)) (now (made .exit)) (now (out .exit)) ≡ fold (metStep (settingOf (length (now (out .entry))) ratio (now (loggers .entry))) node place) (held (now (arrivals .entry)) count) (meeting (held (now (list .entry)) waiting) (emitOf e (now (made .entry)) (now (out .entry))))) × Beyond (now (out .entry)) (now (out .exit)) (e .at) (r .emit .findings) (r .emit .at) ⌝ }
+    requires { ⌜ (getD (now ticks) 0 0 ≡ 0) × (e .at ≤ length (now out)) × (e .findings ≤ e .at) ⌝ }
+    ensures { λ r. ⌜ (metOf (now (ticks .entry)) r (now (list .exit)) (now (made .exit)) (now (out .exit)) ≡ fold (metStep (settingOf (length (now (out .entry))) ratio (now (loggers .entry))) node place) (held (now (ticks .entry)) (now (arrivals .entry)) count) (meeting (held (now (ticks .entry)) (now (list .entry)) waiting) (emitOf (now (ticks .entry)) e (now (made .entry)) (now (out .entry))))) × Beyond (now (out .entry)) (now (out .exit)) (e .at) (r .emit .findings) (r .emit .at) ⌝ }
 {
     let n = up_to(count, arrivals[..].len());
     let mut l = waiting;
     let mut f = e;
     let mut i: usize = 0;
     while i < n {
-        let candidates = contexts::before_arrival(list, l, &arrivals[i], ratio);
-        let t = meet(
+        let candidates = contexts::before_arrival(list, l, &arrivals[i], ticks, ratio);
+        let t = arrivals::meet(
             list,
             l,
             candidates,
@@ -378,6 +123,7 @@ fn meet_all(
             node,
             place,
             ratio,
+            ticks,
             loggers,
             out,
         );
@@ -393,22 +139,23 @@ fn meet_all(
 
 // On one side of an AND node.
 fn and_all(
-    own: &mut [[u64; 10]; 16],
+    own: &mut [[u64; 3]; 16],
     here: usize,
-    other: &mut [[u64; 10]; 16],
+    other: &mut [[u64; 3]; 16],
     there: usize,
     e: Emit,
-    made: &mut [[u64; 10]; 8],
-    arrivals: &[[u64; 10]; 8],
+    made: &mut [[u64; 3]; 8],
+    arrivals: &[[u64; 3]; 8],
     count: usize,
     node: Node,
     place: u64,
     ratio: u64,
+    ticks: &[u64; 256],
     loggers: &[u64; 8],
     out: &mut [u8],
 ) -> SidesTurn
-    requires { ⌜ (e .at ≤ length (now out)) × (e .findings ≤ e .at) ⌝ }
-    ensures { λ r. ⌜ (sidesOf r (now (own .exit)) (now (other .exit)) (now (made .exit)) (now (out .exit)) ≡ fold (sidesStep (settingOf (length (now (out .entry))) ratio (now (loggers .entry))) node place) (held (now (arrivals .entry)) count) (sides (held (now (own .entry)) here) (held (now (other .entry)) there) (emitOf e (now (made .entry)) (now (out .entry))))) × Beyond (now (out .entry)) (now (out .exit)) (e .at) (r .emit .findings) (r .emit .at) ⌝ }
+    requires { ⌜ (getD (now ticks) 0 0 ≡ 0) × (e .at ≤ length (now out)) × (e .findings ≤ e .at) ⌝ }
+    ensures { λ r. ⌜ (sidesOf (now (ticks .entry)) r (now (own .exit)) (now (other .exit)) (now (made .exit)) (now (out .exit)) ≡ fold (sidesStep (settingOf (length (now (out .entry))) ratio (now (loggers .entry))) node place) (held (now (ticks .entry)) (now (arrivals .entry)) count) (sides (held (now (ticks .entry)) (now (own .entry)) here) (held (now (ticks .entry)) (now (other .entry)) there) (emitOf (now (ticks .entry)) e (now (made .entry)) (now (out .entry))))) × Beyond (now (out .entry)) (now (out .exit)) (e .at) (r .emit .findings) (r .emit .at) ⌝ }
 {
     let n = up_to(count, arrivals[..].len());
     let mut l = here;
@@ -416,7 +163,7 @@ fn and_all(
     let mut f = e;
     let mut i: usize = 0;
     while i < n {
-        let t = and_arrival(
+        let t = arrivals::and_arrival(
             own,
             l,
             other,
@@ -427,6 +174,7 @@ fn and_all(
             node,
             place,
             ratio,
+            ticks,
             loggers,
             out,
         );
@@ -446,10 +194,10 @@ fn and_all(
 
 // Nothing made yet.
 fn fresh(findings: u64, at: usize) -> Emit
-    ensures { λ r. ⌜ (((made : List (List ℕ)) (out : List ℕ) → emitOf r made out ≡ begun findings (take at out)) × (r .at ≡ at) × (r .findings ≡ findings)) ⌝ }
+    ensures { λ r. ⌜ (((ticks : List ℕ) (made : List (List ℕ)) (out : List ℕ) → emitOf ticks r made out ≡ begun findings (take at out)) × (r .at ≡ at) × (r .findings ≡ findings)) ⌝ }
 {
     Emit {
-        limit: Limit::None,
+        limit: emissions::number_of(Limit::None),
         made: 0,
         findings: findings,
         at: at,
@@ -459,73 +207,89 @@ fn fresh(findings: u64, at: usize) -> Emit
 // An OR node's turn: it has no waiting list.
 fn or_turn(
     place: u64,
-    la: &[[u64; 10]; 8],
+    la: &[[u64; 3]; 8],
     na: usize,
-    ra: &[[u64; 10]; 8],
+    ra: &[[u64; 3]; 8],
     nb: usize,
     e: Emit,
-    made: &mut [[u64; 10]; 8],
+    made: &mut [[u64; 3]; 8],
+    ticks: &[u64; 256],
     loggers: &[u64; 8],
     out: &mut [u8],
 ) -> Emit
     requires { ⌜ (e .at ≤ length (now out)) × (e .findings ≤ e .at) ⌝ }
-    ensures { λ r. ⌜ (emitOf r (now (made .exit)) (now (out .exit)) ≡ orTurn (length (now (out .entry))) (now (loggers .entry)) place (held (now (la .entry)) na) (held (now (ra .entry)) nb) (emitOf e (now (made .entry)) (now (out .entry)))) × Beyond (now (out .entry)) (now (out .exit)) (e .at) (r .findings) (r .at) ⌝ }
+    ensures { λ r. ⌜ (emitOf (now (ticks .entry)) r (now (made .exit)) (now (out .exit)) ≡ orTurn (length (now (out .entry))) (now (loggers .entry)) place (held (now (ticks .entry)) (now (la .entry)) na) (held (now (ticks .entry)) (now (ra .entry)) nb) (emitOf (now (ticks .entry)) e (now (made .entry)) (now (out .entry)))) × Beyond (now (out .entry)) (now (out .exit)) (e .at) (r .findings) (r .at) ⌝ }
 {
-    let f = or_all(e, made, la, na, place, loggers, out);
-    or_all(f, made, ra, nb, place, loggers, out)
+    let f = or_all(e, made, la, na, place, ticks, loggers, out);
+    or_all(f, made, ra, nb, place, ticks, loggers, out)
 }
 
 // A SEQ node's turn: those on the left wait, those on the right meet them. It has no right list.
 fn seq_turn(
     node: Node,
     place: u64,
-    left: &mut [[u64; 10]; 16],
+    left: &mut [[u64; 3]; 16],
     waiting: usize,
-    la: &[[u64; 10]; 8],
+    la: &[[u64; 3]; 8],
     na: usize,
-    ra: &[[u64; 10]; 8],
+    ra: &[[u64; 3]; 8],
     nb: usize,
     e: Emit,
-    made: &mut [[u64; 10]; 8],
+    made: &mut [[u64; 3]; 8],
     ratio: u64,
+    ticks: &[u64; 256],
     loggers: &[u64; 8],
     out: &mut [u8],
 ) -> ListTurn
-    requires { ⌜ (e .at ≤ length (now out)) × (e .findings ≤ e .at) × (numberOf (e .limit) ≡ 0) ⌝ }
-    ensures { λ r. ⌜ (metOf r (now (left .exit)) (now (made .exit)) (now (out .exit)) ≡ seqTurn (settingOf (length (now (out .entry))) ratio (now (loggers .entry))) node place (held (now (left .entry)) waiting) (held (now (la .entry)) na) (held (now (ra .entry)) nb) (emitOf e (now (made .entry)) (now (out .entry)))) × Beyond (now (out .entry)) (now (out .exit)) (e .at) (r .emit .findings) (r .emit .at) ⌝ }
+    requires { ⌜ (getD (now ticks) 0 0 ≡ 0) × (e .at ≤ length (now out)) × (e .findings ≤ e .at) × (e .limit ≡ 0) ⌝ }
+    ensures { λ r. ⌜ (metOf (now (ticks .entry)) r (now (left .exit)) (now (made .exit)) (now (out .exit)) ≡ seqTurn (settingOf (length (now (out .entry))) ratio (now (loggers .entry))) node place (held (now (ticks .entry)) (now (left .entry)) waiting) (held (now (ticks .entry)) (now (la .entry)) na) (held (now (ticks .entry)) (now (ra .entry)) nb) (emitOf (now (ticks .entry)) e (now (made .entry)) (now (out .entry)))) × Beyond (now (out .entry)) (now (out .exit)) (e .at) (r .emit .findings) (r .emit .at) ⌝ }
 {
     let over = overflows(left, waiting, la, na);
     let l = wait_all(left, waiting, la, na);
     if over {
-        let f = full(e);
+        let f = arrivals::full(e);
         return ListTurn {
             waiting: l,
             emit: f,
         };
     }
-    meet_all(left, l, e, made, ra, nb, node, place, ratio, loggers, out)
+    meet_all(
+        left,
+        l,
+        e,
+        made,
+        ra,
+        nb,
+        node,
+        place,
+        ratio,
+        ticks,
+        loggers,
+        out,
+    )
 }
 
 // An AND node's turn: those on the left, then those on the right.
 fn and_turn(
     node: Node,
     place: u64,
-    left: &mut [[u64; 10]; 16],
+    left: &mut [[u64; 3]; 16],
     l: usize,
-    right: &mut [[u64; 10]; 16],
+    right: &mut [[u64; 3]; 16],
     r: usize,
-    la: &[[u64; 10]; 8],
+    la: &[[u64; 3]; 8],
     na: usize,
-    ra: &[[u64; 10]; 8],
+    ra: &[[u64; 3]; 8],
     nb: usize,
     e: Emit,
-    made: &mut [[u64; 10]; 8],
+    made: &mut [[u64; 3]; 8],
     ratio: u64,
+    ticks: &[u64; 256],
     loggers: &[u64; 8],
     out: &mut [u8],
 ) -> Turn
-    requires { ⌜ (e .at ≤ length (now out)) × (e .findings ≤ e .at) ⌝ }
-    ensures { λ r₁. ⌜ (turnOf r₁ (now (left .exit)) (now (right .exit)) (now (made .exit)) (now (out .exit)) ≡ andTurn (settingOf (length (now (out .entry))) ratio (now (loggers .entry))) node place (held (now (left .entry)) l) (held (now (right .entry)) r) (held (now (la .entry)) na) (held (now (ra .entry)) nb) (emitOf e (now (made .entry)) (now (out .entry)))) × Beyond (now (out .entry)) (now (out .exit)) (e .at) (r₁ .emit .findings) (r₁ .emit .at) ⌝ }
+    requires { ⌜ (getD (now ticks) 0 0 ≡ 0) × (e .at ≤ length (now out)) × (e .findings ≤ e .at) ⌝ }
+    ensures { λ r₁. ⌜ (turnOf (now (ticks .entry)) r₁ (now (left .exit)) (now (right .exit)) (now (made .exit)) (now (out .exit)) ≡ andTurn (settingOf (length (now (out .entry))) ratio (now (loggers .entry))) node place (held (now (ticks .entry)) (now (left .entry)) l) (held (now (ticks .entry)) (now (right .entry)) r) (held (now (ticks .entry)) (now (la .entry)) na) (held (now (ticks .entry)) (now (ra .entry)) nb) (emitOf (now (ticks .entry)) e (now (made .entry)) (now (out .entry)))) × Beyond (now (out .entry)) (now (out .exit)) (e .at) (r₁ .emit .findings) (r₁ .emit .at) ⌝ }
 {
     let s = and_all(
         left,
@@ -539,6 +303,7 @@ fn and_turn(
         node,
         place,
         ratio,
+        ticks,
         loggers,
         out,
     );
@@ -555,6 +320,7 @@ fn and_turn(
         node,
         place,
         ratio,
+        ticks,
         loggers,
         out,
     );
@@ -570,28 +336,40 @@ fn and_turn(
 pub fn node_turn(
     node: Node,
     place: u64,
-    left: &mut [[u64; 10]; 16],
+    left: &mut [[u64; 3]; 16],
     l: usize,
-    right: &mut [[u64; 10]; 16],
+    right: &mut [[u64; 3]; 16],
     r: usize,
-    rows: &[[[u64; 10]; 8]],
+    rows: &[[[u64; 3]; 8]],
     a: usize,
     na: usize,
     b: usize,
     nb: usize,
-    made: &mut [[u64; 10]; 8],
+    made: &mut [[u64; 3]; 8],
     findings: u64,
     ratio: u64,
+    ticks: &[u64; 256],
     loggers: &[u64; 8],
     at: usize,
     out: &mut [u8],
 ) -> Turn
-    requires { ⌜ (at ≤ length (now out)) × (findings ≤ at) × (a < length (now rows)) × (b < length (now rows)) ⌝ }
-    ensures { λ t. ⌜ (turnOf t (now (left .exit)) (now (right .exit)) (now (made .exit)) (now (out .exit)) ≡ nodeTurn (settingOf (length (now (out .entry))) ratio (now (loggers .entry))) node place (held (now (left .entry)) l) (held (now (right .entry)) r) (held (getD (now (rows .entry)) a []) na) (held (getD (now (rows .entry)) b []) nb) findings (take at (now (out .entry)))) × Beyond (now (out .entry)) (now (out .exit)) at (t .emit .findings) (t .emit .at) ⌝ }
+    requires { ⌜ (getD (now ticks) 0 0 ≡ 0) × (at ≤ length (now out)) × (findings ≤ at) × (a < length (now rows)) × (b < length (now rows)) ⌝ }
+    ensures { λ t. ⌜ (turnOf (now (ticks .entry)) t (now (left .exit)) (now (right .exit)) (now (made .exit)) (now (out .exit)) ≡ nodeTurn (settingOf (length (now (out .entry))) ratio (now (loggers .entry))) node place (held (now (ticks .entry)) (now (left .entry)) l) (held (now (ticks .entry)) (now (right .entry)) r) (held (now (ticks .entry)) (getD (now (rows .entry)) a []) na) (held (now (ticks .entry)) (getD (now (rows .entry)) b []) nb) findings (take at (now (out .entry)))) × Beyond (now (out .entry)) (now (out .exit)) at (t .emit .findings) (t .emit .at) ⌝ }
 {
     let e = fresh(findings, at);
     if node.operator == Node::OR {
-        let f = or_turn(place, &rows[a], na, &rows[b], nb, e, made, loggers, out);
+        let f = or_turn(
+            place,
+            &rows[a],
+            na,
+            &rows[b],
+            nb,
+            e,
+            made,
+            ticks,
+            loggers,
+            out,
+        );
         return Turn {
             left: l,
             right: r,
@@ -613,6 +391,7 @@ pub fn node_turn(
             e,
             made,
             ratio,
+            ticks,
             loggers,
             out,
         );
@@ -629,6 +408,7 @@ pub fn node_turn(
         e,
         made,
         ratio,
+        ticks,
         loggers,
         out,
     );

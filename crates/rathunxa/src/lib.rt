@@ -3,9 +3,10 @@ ghost use mathlib.Core.Path.{_≡_};
 ghost use lib.ListN.{length, take};
 ghost use Rattle.gateway.specs.Latest.{LatestExact};
 ghost use Rattle.gateway.specs.Working.{Answers, worked};
-ghost use Rattle.open_calls.specs.Answers.{compareAnswer, joinAnswer};
+ghost use Rattle.comparisons.specs.Answers.{compareAnswer};
+ghost use Rattle.open_calls.specs.Answers.{joinAnswer};
+use comparisons::Comparison;
 use gateway::Answer;
-use open_calls::Comparison;
 use open_calls::JoinAnswer;
 use timestamps::Timestamp;
 
@@ -32,5 +33,5 @@ pub extern "C" fn rathunxa_compare(
 ) -> Comparison
     ensures { λ r. ⌜ r ≡ compareAnswer ratio (now (first .entry)) (now (second .entry)) ⌝ }
 {
-    open_calls::compare(ratio, first, second)
+    comparisons::compare(ratio, first, second)
 }

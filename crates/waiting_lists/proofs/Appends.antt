@@ -24,15 +24,15 @@ module _ (l : List Occurrence) (o : Occurrence) where
   appended-full h = (le-leb 16 (length l) h, rw (le-leb 16 (length l) h))
 
 -- ---- what the code leaves: n are held in the row
-module _ (row : List (List ℕ)) (n : ℕ) (o : List ℕ) (whole : length row ≡ 16) where
-  pub append-has-room : n < 16 → (isFull (held row n) ≡ false) × (held (set row n o) (n + 1) ≡ appendedTo (held row n) (occurrenceOf o))
+module _ (ticks : List ℕ) (row : List (List ℕ)) (n : ℕ) (o : List ℕ) (whole : length row ≡ 16) where
+  pub append-has-room : n < 16 → (isFull (held ticks row n) ≡ false) × (held ticks (set row n o) (n + 1) ≡ appendedTo (held ticks row n) (occurrenceOf ticks o))
   append-has-room h =
-      let few : length (held row n) < 16 = omega (arith, length-held row n) in
-      let a = appended-room (held row n) (occurrenceOf o) few in
-      (a .0, held-more row n o (omega arith) ∙ sym (a .1))
+      let few : length (held ticks row n) < 16 = omega (arith, length-held ticks row n) in
+      let a = appended-room (held ticks row n) (occurrenceOf ticks o) few in
+      (a .0, held-more ticks row n o (omega arith) ∙ sym (a .1))
 
-  pub append-is-full : 16 ≤ n → (isFull (held row n) ≡ true) × (held row n ≡ appendedTo (held row n) (occurrenceOf o))
+  pub append-is-full : 16 ≤ n → (isFull (held ticks row n) ≡ true) × (held ticks row n ≡ appendedTo (held ticks row n) (occurrenceOf ticks o))
   append-is-full h =
-      let many : 16 ≤ length (held row n) = omega (arith, length-held row n) in
-      let a = appended-full (held row n) (occurrenceOf o) many in
+      let many : 16 ≤ length (held ticks row n) = omega (arith, length-held ticks row n) in
+      let a = appended-full (held ticks row n) (occurrenceOf ticks o) many in
       (a .0, sym (a .1))

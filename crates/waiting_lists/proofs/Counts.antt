@@ -33,34 +33,34 @@ unfolding oneMore
 more-full w h = rw (le-ltb (w .len) 16 h) (refl, refl)
 
 -- the row with the new one in the place that it takes, or the row as it was
-module _ (row : List (List ℕ)) (n : ℕ) (o : List ℕ) (whole : length row ≡ 16) (r : AfterAppend) (e : r ≡ oneMore (record { len = n })) where
-  pub more-put : r .place < 16 → held (set row (r .place) o) (r .list .len) ≡ appendedTo (held row n) (occurrenceOf o)
+module _ (ticks : List ℕ) (row : List (List ℕ)) (n : ℕ) (o : List ℕ) (whole : length row ≡ 16) (r : AfterAppend) (e : r ≡ oneMore (record { len = n })) where
+  pub more-put : r .place < 16 → held ticks (set row (r .place) o) (r .list .len) ≡ appendedTo (held ticks row n) (occurrenceOf ticks o)
   more-put h = ⊎-elim room none (either-way (ltb n 16))
     where
-      room : ltb n 16 ≡ true → held (set row (r .place) o) (r .list .len) ≡ appendedTo (held row n) (occurrenceOf o)
+      room : ltb n 16 ≡ true → held ticks (set row (r .place) o) (r .list .len) ≡ appendedTo (held ticks row n) (occurrenceOf ticks o)
       room t =
           let m = more-room (record { len = n }) (ltb-true n 16 t) in
-          rw (e, m .0, m .1) (append-has-room row n o whole (ltb-true n 16 t) .1)
+          rw (e, m .0, m .1) (append-has-room ticks row n o whole (ltb-true n 16 t) .1)
 
-      none : ltb n 16 ≡ false → held (set row (r .place) o) (r .list .len) ≡ appendedTo (held row n) (occurrenceOf o)
+      none : ltb n 16 ≡ false → held ticks (set row (r .place) o) (r .list .len) ≡ appendedTo (held ticks row n) (occurrenceOf ticks o)
       none t =
           let m = more-full (record { len = n }) (ltb-false n 16 t) in
           let p : r .place ≡ 16 = ap (λ (a : AfterAppend). a .place) e ∙ m .0 in
           absurd (omega (arith, h, p))
 
-  pub more-left : 16 ≤ r .place → held row (r .list .len) ≡ appendedTo (held row n) (occurrenceOf o)
+  pub more-left : 16 ≤ r .place → held ticks row (r .list .len) ≡ appendedTo (held ticks row n) (occurrenceOf ticks o)
   more-left h = ⊎-elim room none (either-way (ltb n 16))
     where
-      room : ltb n 16 ≡ true → held row (r .list .len) ≡ appendedTo (held row n) (occurrenceOf o)
+      room : ltb n 16 ≡ true → held ticks row (r .list .len) ≡ appendedTo (held ticks row n) (occurrenceOf ticks o)
       room t =
           let m = more-room (record { len = n }) (ltb-true n 16 t) in
           let p : r .place ≡ n = ap (λ (a : AfterAppend). a .place) e ∙ m .0 in
           absurd (omega (arith, h, p, ltb-true n 16 t))
 
-      none : ltb n 16 ≡ false → held row (r .list .len) ≡ appendedTo (held row n) (occurrenceOf o)
+      none : ltb n 16 ≡ false → held ticks row (r .list .len) ≡ appendedTo (held ticks row n) (occurrenceOf ticks o)
       none t =
           let m = more-full (record { len = n }) (ltb-false n 16 t) in
-          rw (e, m .1) (append-is-full row n o whole (ltb-false n 16 t) .1)
+          rw (e, m .1) (append-is-full ticks row n o whole (ltb-false n 16 t) .1)
 
 -- ---- those not marked
 -- one place at a time, as a loop goes
@@ -91,10 +91,10 @@ take-again (suc n) [] = refl
 take-again (suc n) (a ∷ l) = ap (λ k. a ∷ k) (take-again n l)
 
 -- the list after a removal and its row that was closed up
-pub rest-held : (row closed : List (List ℕ)) (n k : ℕ) (gone : List Bool) → length row ≡ 16 → held closed k ≡ unmarked (held row n) gone
-    → held closed (fewer (record { len = n }) gone .len) ≡ unmarked (held row n) gone
+pub rest-held : (ticks : List ℕ) (row closed : List (List ℕ)) (n k : ℕ) (gone : List Bool) → length row ≡ 16 → held ticks closed k ≡ unmarked (held ticks row n) gone
+    → held ticks closed (fewer (record { len = n }) gone .len) ≡ unmarked (held ticks row n) gone
 unfolding fewer
-rest-held row closed n k gone whole e =
-    let same : length (range 0 (min n 16)) ≡ length (held row n) = length-range 0 (min n 16) ∙ sym (length-held row n ∙ ap (min n) whole) in
-    let many : length (unmarked (range 0 (min n 16)) gone) ≡ length (held closed k) = count-same (range 0 (min n 16)) (held row n) gone same ∙ sym (ap length e) in
-    rw many (take-again k (map occurrenceOf closed) ∙ e)
+rest-held ticks row closed n k gone whole e =
+    let same : length (range 0 (min n 16)) ≡ length (held ticks row n) = length-range 0 (min n 16) ∙ sym (length-held ticks row n ∙ ap (min n) whole) in
+    let many : length (unmarked (range 0 (min n 16)) gone) ≡ length (held ticks closed k) = count-same (range 0 (min n 16)) (held ticks row n) gone same ∙ sym (ap length e) in
+    rw many (take-again k (map (occurrenceOf ticks) closed) ∙ e)

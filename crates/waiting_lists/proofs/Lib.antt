@@ -1,4 +1,5 @@
 pub mod Appends
 pub mod Counts
+pub mod Marks
 pub mod Places
 pub mod Removals

@@ -8,5 +8,5 @@ use Rattle.occurrences.specs.Occurrences.{blank}
 use Rattle.occurrences.specs.Packed.{held, occurrenceOf}
 use Rattle.occurrences.proofs.Packed.{held-at, length-held}
 
-pub waiting-at : (row : List (List ℕ)) (n i : ℕ) → i < length (held row n) → occurrenceOf (getD row i []) ≡ getD (held row n) i blank
-waiting-at row n i h = sym (held-at row n i (omega (arith, length-held row n)) (omega (arith, length-held row n)))
+pub waiting-at : (ticks : List ℕ) (row : List (List ℕ)) (n i : ℕ) → i < length (held ticks row n) → occurrenceOf ticks (getD row i []) ≡ getD (held ticks row n) i blank
+waiting-at ticks row n i h = sym (held-at ticks row n i (omega (arith, length-held ticks row n)) (omega (arith, length-held ticks row n)))

@@ -74,15 +74,23 @@ module _ {A : Type 0} (items : List A) (n : ℕ) (gone : List Bool) where
   closing-end now k i c past = sym (append-nil (take k now)) ∙ ap (λ l. take k now ++ l) (sym (unmarked-end (take n items) gone i past)) ∙ c .closed
 
 -- ---- in a row of packed occurrences
-module _ (row now : List (List ℕ)) (n : ℕ) (gone : List Bool) (k i : ℕ) (c : Closing (map occurrenceOf row) n gone (map occurrenceOf now) k i) where
-  pub row-kept : i < length (held row n) → i < length gone → i < length now → k ≤ i → getD gone i false ≡ false
-      → Closing (map occurrenceOf row) n gone (map occurrenceOf (set now k (getD now i []))) (k + 1) (i + 1)
+module _ (ticks : List ℕ) (row now : List (List ℕ)) (n : ℕ) (gone : List Bool) (k i : ℕ) (c : Closing (map (occurrenceOf ticks) row) n gone (map (occurrenceOf ticks) now) k i) where
+  pub row-kept : i < length (held ticks row n) → i < length gone → i < length now → k ≤ i → getD gone i false ≡ false
+      → Closing (map (occurrenceOf ticks) row) n gone (map (occurrenceOf ticks) (set now k (getD now i []))) (k + 1) (i + 1)
   row-kept in-l in-gone in-now h e =
-      rw (map-set occurrenceOf now k (getD now i []))
-      (closing-kept (map occurrenceOf row) n gone (map occurrenceOf now) k i blank c in-l in-gone (occurrenceOf (getD now i [])) h (sym (getD-map occurrenceOf now i [] blank in-now)) e)
+      rw (map-set (occurrenceOf ticks) now k (getD now i []))
+      (closing-kept (map (occurrenceOf ticks) row) n gone (map (occurrenceOf ticks) now) k i blank c in-l in-gone (occurrenceOf ticks (getD now i [])) h (sym (getD-map (occurrenceOf ticks) now i [] blank in-now)) e)
 
-  pub row-gone : i < length (held row n) → i < length gone → getD gone i false ≡ true → Closing (map occurrenceOf row) n gone (map occurrenceOf now) k (i + 1)
-  row-gone in-l in-gone e = closing-gone (map occurrenceOf row) n gone (map occurrenceOf now) k i blank c in-l in-gone e
+  pub row-gone : i < length (held ticks row n) → i < length gone → getD gone i false ≡ true → Closing (map (occurrenceOf ticks) row) n gone (map (occurrenceOf ticks) now) k (i + 1)
+  row-gone in-l in-gone e = closing-gone (map (occurrenceOf ticks) row) n gone (map (occurrenceOf ticks) now) k i blank c in-l in-gone e
+
+-- ---- where no place is marked nothing goes
+pub unmarked-clear : {A : Type 0} (l : List A) (gone : List Bool) → length gone ≤ firstMark gone → unmarked l gone ≡ l
+unfolding unmarked firstMark
+unmarked-clear [] gone h = refl
+unmarked-clear (a ∷ l) [] h = refl
+unmarked-clear (a ∷ l) (true ∷ gone) h = absurd (omega arith)
+unmarked-clear (a ∷ l) (false ∷ gone) h = ap (λ r. a ∷ r) (unmarked-clear l gone (omega arith))
 
 -- ---- freed places are used again: where one of the list is marked there is room for an append
 pub freed-room : (l : List Occurrence) (gone : List Bool) → length l ≤ 16 → firstMark gone < length l → firstMark gone < length gone

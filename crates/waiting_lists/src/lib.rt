@@ -1,10 +1,13 @@
 // Waiting lists: at most 16 occurrences, in waiting order. They stand in a row of 16 packed occurrences, which is lent beside the list.
+ghost use mathlib.Core.Bool.{false, true};
+ghost use mathlib.Core.List.{List};
 ghost use mathlib.Core.Path.{_≡_};
-ghost use Prim.Native.Nat.{min, _≤_};
-ghost use lib.ListN.{length};
+ghost use Prim.Native.Nat.{ℕ, min, _≤_, _<_};
+ghost use lib.ListN.{getD, length, set};
 ghost use Rattle.sequences.specs.Choice.{pick};
 ghost use Rattle.sequences.specs.Marks.{firstMark, unmarked};
 ghost use Rattle.occurrences.specs.Packed.{held, occurrenceOf};
+ghost use Rattle.waiting_lists.specs.Marks.{marksOf};
 ghost use Rattle.waiting_lists.specs.Steps.{fewer, oneMore};
 ghost use Rattle.waiting_lists.specs.Waiting.{appendedTo};
 
@@ -27,25 +30,37 @@ pub fn count(n: usize) -> usize
 }
 
 // How many of a row wait.
-pub fn count_in(list: &[[u64; 10]; 16], n: usize) -> usize
-    ensures { λ r. ⌜ (r ≡ length (held (now (list .entry)) n)) × (r ≤ 16) × (length (now (list .entry)) ≡ 16) ⌝ }
+pub fn count_in(list: &[[u64; 3]; 16], n: usize) -> usize
+    ensures { λ r. ⌜ ((ticks : List ℕ) → r ≡ length (held ticks (now (list .entry)) n)) × (r ≤ 16) × (length (now (list .entry)) ≡ 16) ⌝ }
 {
     let places = list[..].len();
     if n < places { n } else { places }
 }
 
-// The first place that is marked; 16 where none is.
-pub fn first_marked(marks: [bool; 16]) -> usize
-    ensures { λ r. ⌜ r ≡ firstMark marks ⌝ }
+// ---- marks
+
+// Whether a place is marked.
+pub fn is_marked(marks: u64, place: usize) -> bool
+    requires { ⌜ place < 16 ⌝ }
+    ensures { λ r. ⌜ r ≡ getD (marksOf marks) place false ⌝ }
 {
-    let mut i: usize = 0;
-    while i < 16 {
-        if marks[i] {
-            return i;
-        }
-        i = i + 1;
-    }
-    i
+    (marks >> place) % 2 == 1
+}
+
+// With this place too, where that is to be marked.
+pub fn with_mark(marks: u64, place: usize, mark: bool) -> u64
+    requires { ⌜ place < 16 ⌝ }
+    ensures { λ r. ⌜ marksOf r ≡ pick mark (set (marksOf marks) place true) (marksOf marks) ⌝ }
+{
+    if mark { marks | 1 << place } else { marks }
+}
+
+// The first place that is marked; 16 where none is.
+pub fn first_marked(marks: u64) -> usize
+    ensures { λ r. ⌜ r ≡ firstMark (marksOf marks) ⌝ }
+{
+    let first = u64::trailing_zeros(marks) as usize;
+    if first < 16 { first } else { 16 }
 }
 
 // ---- the list
@@ -76,14 +91,14 @@ fn one_unless(gone: bool) -> usize
 }
 
 // Those that are marked leave.
-fn kept(list: WaitingList, gone: [bool; 16]) -> WaitingList
-    ensures { λ r. ⌜ r ≡ fewer list gone ⌝ }
+fn kept(list: WaitingList, gone: u64) -> WaitingList
+    ensures { λ r. ⌜ r ≡ fewer list (marksOf gone) ⌝ }
 {
     let n = count(list.len);
     let mut k: usize = 0;
     let mut i: usize = 0;
     while i < n {
-        k = k + one_unless(gone[i]);
+        k = k + one_unless(is_marked(gone, i));
         i = i + 1;
     }
     WaitingList { len: k }
@@ -99,8 +114,8 @@ pub fn append(list: &mut WaitingList) -> usize
 }
 
 // A removal of those marked from a list that is lent.
-pub fn remove(list: &mut WaitingList, gone: [bool; 16])
-    ensures { λ _. ⌜ now (list .exit) ≡ fewer (now (list .entry)) gone ⌝ }
+pub fn remove(list: &mut WaitingList, gone: u64)
+    ensures { λ _. ⌜ now (list .exit) ≡ fewer (now (list .entry)) (marksOf gone) ⌝ }
 {
     *list = kept(*list, gone);
 }
@@ -118,8 +133,8 @@ fn with_one_more(list: WaitingList) -> AfterAppend
 }
 
 // A removal from a list by value, which is lent.
-fn without(list: WaitingList, gone: [bool; 16]) -> WaitingList
-    ensures { λ r. ⌜ r ≡ fewer list gone ⌝ }
+fn without(list: WaitingList, gone: u64) -> WaitingList
+    ensures { λ r. ⌜ r ≡ fewer list (marksOf gone) ⌝ }
 {
     let mut m = list;
     remove(&mut m, gone);
@@ -129,8 +144,8 @@ fn without(list: WaitingList, gone: [bool; 16]) -> WaitingList
 // ---- the list and its row
 
 // One more at the end, unless the list is full: how many wait then.
-pub fn append_to(row: &mut [[u64; 10]; 16], waiting: usize, o: &[u64; 10]) -> usize
-    ensures { λ r. ⌜ held (now (row .exit)) r ≡ appendedTo (held (now (row .entry)) waiting) (occurrenceOf (now (o .entry))) ⌝ }
+pub fn append_to(row: &mut [[u64; 3]; 16], waiting: usize, o: &[u64; 3]) -> usize
+    ensures { λ r. ⌜ ((ticks : List ℕ) → held ticks (now (row .exit)) r ≡ appendedTo (held ticks (now (row .entry)) waiting) (occurrenceOf ticks (now (o .entry)))) ⌝ }
 {
     let list = WaitingList { len: waiting };
     let a = with_one_more(list);
@@ -151,8 +166,8 @@ fn earlier(a: usize, b: usize) -> usize
 }
 
 // Those of a row that are not marked close up in order.
-fn close_up(row: &mut [[u64; 10]; 16], waiting: usize, gone: [bool; 16]) -> usize
-    ensures { λ r. ⌜ held (now (row .exit)) r ≡ unmarked (held (now (row .entry)) waiting) gone ⌝ }
+fn close_up(row: &mut [[u64; 3]; 16], waiting: usize, gone: u64) -> usize
+    ensures { λ r. ⌜ ((ticks : List ℕ) → held ticks (now (row .exit)) r ≡ unmarked (held ticks (now (row .entry)) waiting) (marksOf gone)) ⌝ }
 {
     let first = first_marked(gone);
     let n = count_in(row, waiting);
@@ -161,7 +176,7 @@ fn close_up(row: &mut [[u64; 10]; 16], waiting: usize, gone: [bool; 16]) -> usiz
     let mut i = start;
     while i < n {
         let next = i + 1;
-        if !gone[i] {
+        if !is_marked(gone, i) {
             let o = row[i];
             row[k] = o;
             k = k + 1;
@@ -172,9 +187,12 @@ fn close_up(row: &mut [[u64; 10]; 16], waiting: usize, gone: [bool; 16]) -> usiz
 }
 
 // Those that are not marked close up in order: how many wait then.
-pub fn remove_from(row: &mut [[u64; 10]; 16], waiting: usize, gone: [bool; 16]) -> usize
-    ensures { λ r. ⌜ held (now (row .exit)) r ≡ unmarked (held (now (row .entry)) waiting) gone ⌝ }
+pub fn remove_from(row: &mut [[u64; 3]; 16], waiting: usize, gone: u64) -> usize
+    ensures { λ r. ⌜ ((ticks : List ℕ) → held ticks (now (row .exit)) r ≡ unmarked (held ticks (now (row .entry)) waiting) (marksOf gone)) ⌝ }
 {
+    if first_marked(gone) == 16 {
+        return waiting;
+    }
     // The row as a slice is what tells the proof its length.
     let places = row[..].len();
     let list = WaitingList { len: waiting };

@@ -8,6 +8,8 @@ use Rattle.sequences.specs.Marks.{marked}
 use Rattle.sequences.proofs.Marks.{marked-end}
 use Rattle.sequences.specs.Select.{any}
 use Rattle.occurrences.specs.Packed.{held, occurrenceOf}
+use Rattle.waiting_lists.specs.Marks.{marksOf}
+use Rattle.waiting_lists.proofs.Marks.{length-marks}
 use Rattle.contexts.specs.Steps.{barsOf}
 use Rattle.contexts.specs.Table.{takesOf}
 use Rattle.contexts.proofs.Steps.{found-here, not-here}
@@ -15,20 +17,20 @@ use Rattle.contexts.proofs.barred.Statement.{statement}
 use Rattle.contexts.proofs.barred.Tie as tie
 
 abbrev Inv-loop : tie.InvT-loop
-Inv-loop rule w list waiting ratio candidates n j₀ j =
-    (j ≤ n) × (n ≤ 16) × (length candidates ≡ 16) × (any (barsOf (takesOf rule) ratio (occurrenceOf w)) (marked (drop j (held list waiting)) (drop j candidates)) ≡ any (barsOf (takesOf rule) ratio (occurrenceOf w)) (marked (held list waiting) candidates))
+Inv-loop rule w list waiting candidates ticks ratio n j₀ j =
+    (j ≤ n) × (n ≤ 16) × (any (barsOf (takesOf rule) ratio (occurrenceOf ticks w)) (marked (drop j (held ticks list waiting)) (drop j (marksOf candidates))) ≡ any (barsOf (takesOf rule) ratio (occurrenceOf ticks w)) (marked (held ticks list waiting) (marksOf candidates)))
 
 abbrev μ-loop : tie.MeasureT-loop
-μ-loop rule w list waiting ratio candidates n j₀ j = n - j
+μ-loop rule w list waiting candidates ticks ratio n j₀ j = n - j
 
 count-in-requires : tie.Need-count-in-requires Inv-loop μ-loop
 count-in-requires c κs = search needs
 
 loop-holds : tie.Need-loop-holds Inv-loop μ-loop
-loop-holds c = (search needs, search needs, search needs, refl)
+loop-holds c = (search needs, search needs, refl)
 
-array-read-bars : tie.Need-array-read-bars Inv-loop μ-loop
-array-read-bars c = search needs
+is-marked-requires : tie.Need-is-marked-requires Inv-loop μ-loop
+is-marked-requires c κs = search needs
 
 mul-bars : tie.Need-mul-bars Inv-loop μ-loop
 mul-bars c = search needs
@@ -42,16 +44,18 @@ bars-requires c κs = search needs
 returns : tie.Need-returns Inv-loop μ-loop
 returns c =
     let a = c .before in
-    let b = a .before .before .before in
+    let m = a .before .before in
+    let b = m .before .before in
     let q = b .before in
     let s = q .before in
+    let ticks = s .args .ticks .now in
     let r = s .args .list .now in
     let w = s .args .waiting in
-    let n : q .count-in .result ≡ length (held r w) = q .count-in .ensures .0 in
-    let in-l : b .loop .j < length (held r w) = omega arith in
+    let n : q .count-in .result ≡ length (held ticks r w) = q .count-in .ensures .0 ticks in
+    let in-l : b .loop .j < length (held ticks r w) = omega arith in
     let few : q .count-in .result ≤ 16 = b .loop .inv .1 in
-    let long : length (s .args .t5) ≡ 16 = b .loop .inv .2 in
-    sym (found-here r w (s .args .t5) (b .loop .j) in-l (omega arith) (barsOf (takesOf (s .args .rule)) (s .args .ratio) (occurrenceOf (s .args .w .now))) (a .bars .result) (a .bars .ensures) (c .if1 .taken)) ∙ b .loop .inv .3
+    let long : length (marksOf (s .args .candidates)) ≡ 16 = length-marks (s .args .candidates) in
+    sym (found-here ticks r w (marksOf (s .args .candidates)) (b .loop .j) in-l (omega arith) (barsOf (takesOf (s .args .rule)) (s .args .ratio) (occurrenceOf ticks (s .args .w .now))) (m .is-marked .result) (a .bars .result) (m .is-marked .ensures) (a .bars .ensures) (c .if1 .taken)) ∙ b .loop .inv .2
 
 add-j : tie.Need-add-j Inv-loop μ-loop
 add-j c = search needs
@@ -62,16 +66,18 @@ loop-less c = search needs
 loop-again : tie.Need-loop-again Inv-loop μ-loop
 loop-again c =
     let a = c .before in
-    let b = a .before .before .before in
+    let m = a .before .before in
+    let b = m .before .before in
     let q = b .before in
     let s = q .before in
+    let ticks = s .args .ticks .now in
     let r = s .args .list .now in
     let w = s .args .waiting in
-    let n : q .count-in .result ≡ length (held r w) = q .count-in .ensures .0 in
-    let in-l : b .loop .j < length (held r w) = omega arith in
+    let n : q .count-in .result ≡ length (held ticks r w) = q .count-in .ensures .0 ticks in
+    let in-l : b .loop .j < length (held ticks r w) = omega arith in
     let few : q .count-in .result ≤ 16 = b .loop .inv .1 in
-    let long : length (s .args .t5) ≡ 16 = b .loop .inv .2 in
-    (search needs, few, long, sym (not-here r w (s .args .t5) (b .loop .j) in-l (omega arith) (barsOf (takesOf (s .args .rule)) (s .args .ratio) (occurrenceOf (s .args .w .now))) (a .bars .result) (a .bars .ensures) (c .if1 .left)) ∙ b .loop .inv .3)
+    let long : length (marksOf (s .args .candidates)) ≡ 16 = length-marks (s .args .candidates) in
+    (search needs, few, sym (not-here ticks r w (marksOf (s .args .candidates)) (b .loop .j) in-l (omega arith) (barsOf (takesOf (s .args .rule)) (s .args .ratio) (occurrenceOf ticks (s .args .w .now))) (m .is-marked .result) (a .bars .result) (m .is-marked .ensures) (a .bars .ensures) (c .if1 .left)) ∙ b .loop .inv .2)
 
 returns-2 : tie.Need-returns-2 Inv-loop μ-loop
 unfolding any
@@ -79,10 +85,11 @@ returns-2 c =
     let b = c .before in
     let q = b .before in
     let s = q .before in
+    let ticks = s .args .ticks .now in
     let r = s .args .list .now in
     let w = s .args .waiting in
-    let n : q .count-in .result ≡ length (held r w) = q .count-in .ensures .0 in
-    sym (ap (any (barsOf (takesOf (s .args .rule)) (s .args .ratio) (occurrenceOf (s .args .w .now)))) (marked-end (held r w) (s .args .t5) (b .loop .j) (omega arith))) ∙ b .loop .inv .3
+    let n : q .count-in .result ≡ length (held ticks r w) = q .count-in .ensures .0 ticks in
+    sym (ap (any (barsOf (takesOf (s .args .rule)) (s .args .ratio) (occurrenceOf ticks (s .args .w .now)))) (marked-end (held ticks r w) (marksOf (s .args .candidates)) (b .loop .j) (omega arith))) ∙ b .loop .inv .2
 
 pub barred-spec : {M : Type 1} → statement M
 barred-spec =
@@ -92,7 +99,7 @@ barred-spec =
     μ-loop
     count-in-requires
     loop-holds
-    array-read-bars
+    is-marked-requires
     mul-bars
     index-1-bars
     bars-requires

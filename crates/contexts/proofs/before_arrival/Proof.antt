@@ -1,5 +1,5 @@
 -- The marks before place i are those of the test.
-use mathlib.Core.Path.{_≡_}
+use mathlib.Core.Path.{_≡_, _∙_}
 use mathlib.Core.List.{map}
 use Prim.Native.Nat.{_-_, _≤_, _<_}
 use native.Mathlib.Omega.{arith}
@@ -9,22 +9,24 @@ use Rattle.sequences.specs.Marks.{padded}
 use Rattle.sequences.proofs.Marks.{padded-start, padded-end}
 use Rattle.occurrences.specs.Occurrences.{isBefore}
 use Rattle.occurrences.specs.Packed.{held, occurrenceOf}
+use Rattle.waiting_lists.specs.Marks.{marksOf}
+use Rattle.waiting_lists.proofs.Marks.{marks-none}
 use Rattle.contexts.specs.Choice.{seqCandidates}
 use Rattle.contexts.proofs.Steps.{tested-turn}
 use Rattle.contexts.proofs.before_arrival.Statement.{statement}
 use Rattle.contexts.proofs.before_arrival.Tie as tie
 
 abbrev Inv-loop : tie.InvT-loop
-Inv-loop list waiting o ratio n marks₀ i₀ marks i = (i ≤ n) × (marks ≡ padded 16 (take i (map (λ w. isBefore ratio w (occurrenceOf o)) (held list waiting))))
+Inv-loop list waiting o ticks ratio n marks₀ i₀ marks i = (i ≤ n) × (marksOf marks ≡ padded 16 (take i (map (λ w. isBefore ratio w (occurrenceOf ticks o)) (held ticks list waiting))))
 
 abbrev μ-loop : tie.MeasureT-loop
-μ-loop list waiting o ratio n marks₀ i₀ marks i = n - i
+μ-loop list waiting o ticks ratio n marks₀ i₀ marks i = n - i
 
 count-in-requires : tie.Need-count-in-requires Inv-loop μ-loop
 count-in-requires c κs = search needs
 
 loop-holds : tie.Need-loop-holds Inv-loop μ-loop
-loop-holds c = (search needs, padded-start 16)
+loop-holds c = (search needs, marks-none ∙ padded-start 16)
 
 mul-before : tie.Need-mul-before Inv-loop μ-loop
 mul-before c = search needs
@@ -35,8 +37,8 @@ index-1-before c = search needs
 before-requires : tie.Need-before-requires Inv-loop μ-loop
 before-requires c κs = search needs
 
-array-write-marks : tie.Need-array-write-marks Inv-loop μ-loop
-array-write-marks c = search needs
+with-mark-requires : tie.Need-with-mark-requires Inv-loop μ-loop
+with-mark-requires c κs = search needs
 
 add-i : tie.Need-add-i Inv-loop μ-loop
 add-i c = search needs
@@ -46,14 +48,16 @@ loop-less c = search needs
 
 loop-again : tie.Need-loop-again Inv-loop μ-loop
 loop-again c =
-    let b = c .before .before .before in
+    let t = c .before in
+    let b = t .before .before .before in
     let q = b .before in
     let s = q .before in
+    let ticks = s .args .ticks .now in
     let r = s .args .list .now in
     let w = s .args .waiting in
-    let n : q .count-in .result ≡ length (held r w) = q .count-in .ensures .0 in
-    let in-l : b .loop .i < length (held r w) = omega arith in
-    (search needs, tested-turn r w (b .loop .marks) (b .loop .i) in-l (search needs) (λ v. isBefore (s .args .ratio) v (occurrenceOf (s .args .o .now))) _ (b .loop .inv .1) (c .before2 .ensures))
+    let n : q .count-in .result ≡ length (held ticks r w) = q .count-in .ensures .0 ticks in
+    let in-l : b .loop .i < length (held ticks r w) = omega arith in
+    (search needs, tested-turn ticks r w (marksOf (b .loop .marks)) (b .loop .i) in-l (search needs) (λ v. isBefore (s .args .ratio) v (occurrenceOf ticks (s .args .o .now))) _ _ (b .loop .inv .1) (t .before2 .ensures) (c .with-mark .ensures))
 
 returns : tie.Need-returns Inv-loop μ-loop
 unfolding seqCandidates
@@ -61,11 +65,12 @@ returns c =
     let b = c .before in
     let q = b .before in
     let s = q .before in
+    let ticks = s .args .ticks .now in
     let r = s .args .list .now in
     let w = s .args .waiting in
-    let n : q .count-in .result ≡ length (held r w) = q .count-in .ensures .0 in
-    padded-end 16 (map (λ v. isBefore (s .args .ratio) v (occurrenceOf (s .args .o .now))) (held r w)) (b .loop .marks) (b .loop .i)
-    (omega (arith, length-map (held r w) (λ v. isBefore (s .args .ratio) v (occurrenceOf (s .args .o .now))))) (b .loop .inv .1)
+    let n : q .count-in .result ≡ length (held ticks r w) = q .count-in .ensures .0 ticks in
+    padded-end 16 (map (λ v. isBefore (s .args .ratio) v (occurrenceOf ticks (s .args .o .now))) (held ticks r w)) (marksOf (b .loop .marks)) (b .loop .i)
+    (omega (arith, length-map (held ticks r w) (λ v. isBefore (s .args .ratio) v (occurrenceOf ticks (s .args .o .now))))) (b .loop .inv .1)
 
 pub before-arrival-spec : {M : Type 1} → statement M
 before-arrival-spec =
@@ -78,7 +83,7 @@ before-arrival-spec =
     mul-before
     index-1-before
     before-requires
-    array-write-marks
+    with-mark-requires
     add-i
     loop-less
     loop-again

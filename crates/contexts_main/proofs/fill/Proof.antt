@@ -1,14 +1,16 @@
--- The loop counts to 18.
+-- The loop counts to 18, and the table has 0 at place 0.
+use mathlib.Core.Path.{_≡_}
 use Prim.Native.Nat.{_-_, _≤_}
+use lib.ListN.{getD}
 use borrow.Author.Needs.{needs}
 use Rattle.contexts_main.proofs.fill.Statement.{statement}
 use Rattle.contexts_main.proofs.fill.Tie as tie
 
 abbrev Inv-loop : tie.InvT-loop
-Inv-loop list₀ n₀ i₀ t8 t9 list n i = i ≤ 18
+Inv-loop list₀ ticks₀ n₀ i₀ t10 t11 list ticks n i = (i ≤ 18) × (getD ticks 0 0 ≡ 0)
 
 abbrev μ-loop : tie.MeasureT-loop
-μ-loop list₀ n₀ i₀ t8 t9 list n i = 18 - i
+μ-loop list₀ ticks₀ n₀ i₀ t10 t11 list ticks n i = 18 - i
 
 loop-holds : tie.Need-loop-holds Inv-loop μ-loop
 loop-holds c = search needs
@@ -25,11 +27,11 @@ loop-less c = search needs
 loop-again : tie.Need-loop-again Inv-loop μ-loop
 loop-again c = search needs
 
-array-write-gone : tie.Need-array-write-gone Inv-loop μ-loop
-array-write-gone c = search needs
+with-mark-requires : tie.Need-with-mark-requires Inv-loop μ-loop
+with-mark-requires c κs = search needs
 
-array-write-gone-2 : tie.Need-array-write-gone-2 Inv-loop μ-loop
-array-write-gone-2 c = search needs
+with-mark-requires-2 : tie.Need-with-mark-requires-2 Inv-loop μ-loop
+with-mark-requires-2 c κs = search needs
 
 remove-from-requires : tie.Need-remove-from-requires Inv-loop μ-loop
 remove-from-requires c κs = search needs
@@ -66,8 +68,8 @@ fill-spec =
     add-i
     loop-less
     loop-again
-    array-write-gone
-    array-write-gone-2
+    with-mark-requires
+    with-mark-requires-2
     remove-from-requires
     slice-aggregate-write
     write-requires

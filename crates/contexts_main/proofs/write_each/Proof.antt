@@ -5,10 +5,10 @@ use Rattle.contexts_main.proofs.write_each.Statement.{statement}
 use Rattle.contexts_main.proofs.write_each.Tie as tie
 
 abbrev Inv-loop : tie.InvT-loop
-Inv-loop list waiting o taken n i₀ i = (i ≤ n) × (n ≤ 16)
+Inv-loop list waiting taken o ticks n i₀ i = (i ≤ n) × (n ≤ 16)
 
 abbrev μ-loop : tie.MeasureT-loop
-μ-loop list waiting o taken n i₀ i = n - i
+μ-loop list waiting taken o ticks n i₀ i = n - i
 
 count-requires : tie.Need-count-requires Inv-loop μ-loop
 count-requires c κs = search needs
@@ -16,8 +16,8 @@ count-requires c κs = search needs
 loop-holds : tie.Need-loop-holds Inv-loop μ-loop
 loop-holds c = search needs
 
-array-read-write-combined : tie.Need-array-read-write-combined Inv-loop μ-loop
-array-read-write-combined c = search needs
+is-marked-requires : tie.Need-is-marked-requires Inv-loop μ-loop
+is-marked-requires c κs = search needs
 
 mul-write-combined : tie.Need-mul-write-combined Inv-loop μ-loop
 mul-write-combined c = search needs
@@ -48,7 +48,7 @@ write-each-spec =
     μ-loop
     count-requires
     loop-holds
-    array-read-write-combined
+    is-marked-requires
     mul-write-combined
     index-1-write-combined
     write-combined-requires

@@ -5,10 +5,10 @@ use Rattle.contexts_main.proofs.write_events.Statement.{statement}
 use Rattle.contexts_main.proofs.write_events.Tie as tie
 
 abbrev Inv-loop : tie.InvT-loop
-Inv-loop o set i₀ t5 i = i ≤ 128
+Inv-loop o ticks set i₀ t5 i = i ≤ 128
 
 abbrev μ-loop : tie.MeasureT-loop
-μ-loop o set i₀ t5 i = 128 - i
+μ-loop o ticks set i₀ t5 i = 128 - i
 
 unpacked-requires : tie.Need-unpacked-requires Inv-loop μ-loop
 unpacked-requires c κs = search needs

@@ -1,4 +1,4 @@
--- `detections::put_stamp`: a stamp is its logger number and its tick; nothing is written where there is none.
+-- A stamp is its logger number and its tick; nothing is written where there is none.
 use Prim.Native.Nat.{_≤_}
 use denote.Ref.{now}
 use native.Mathlib.Omega.{arith}
@@ -14,14 +14,17 @@ put-u16-requires : tie.Need-put-u16-requires
 put-u16-requires c κs =
     let t = c .before in
     let a = t .before .before .args in
-    omega (arith, length-stamp (a .present) (a .logger) (a .tick) (t .if1 .taken))
+    omega (arith, length-stamp (a .logger) (a .w) (t .if1 .taken))
+
+sub-put-u64 : tie.Need-sub-put-u64
+sub-put-u64 c = search needs
 
 put-u64-requires : tie.Need-put-u64-requires
 unfolding bigEndian
 put-u64-requires c κs =
     let t = c .before .before .before .before .before in
     let a = t .before .before .args in
-    omega (arith, length-stamp (a .present) (a .logger) (a .tick) (t .if1 .taken))
+    omega (arith, length-stamp (a .logger) (a .w) (t .if1 .taken))
 
 same-length : tie.Need-same-length
 same-length c = search needs
@@ -34,11 +37,12 @@ returns c =
     let s = t .before .before in
     let a = s .args in
     let in-out : a .at ≤ length (now (a .out)) = omega (arith, s .pre) in
-    rw (stamp-yes (a .present) (a .logger) (a .tick) (t .if1 .taken)) (wrote-then in-out (w1 .put-u16 .ensures) (w2 .put-u64 .ensures))
+    rw (stamp-yes (a .logger) (a .w) (t .if1 .taken)) (wrote-then in-out (w1 .put-u16 .ensures) (w2 .put-u64 .ensures))
 
 returns-2 : tie.Need-returns-2
-returns-2 c = rw (stamp-no _ _ _ (c .if1 .left)) (wrote-none _ _)
+returns-2 c = rw (stamp-no _ _ (c .if1 .left)) (wrote-none _ _)
 
 pub put-stamp-spec : {M : Type 1} → statement M
 put-stamp-spec =
-    tie.close (tie.spec put-u16-requires put-u64-requires same-length returns returns-2)
+    tie.close
+    (tie.spec put-u16-requires sub-put-u64 put-u64-requires same-length returns returns-2)

@@ -1,8 +1,11 @@
--- `detections::put_stamps`: the stamps that are left from place k on, written from here, make all of them.
+-- The stamps that are left from place k on, written from here, make all of them.
 use mathlib.Core.List.{map}
+use denote.Ref.{now}
 use Prim.Native.Nat.{_+_, _-_, _≤_}
 use lib.ListN.{getD}
-use Rattle.timestamps.specs.Composite.{members, presentAt, tickZero}
+use Rattle.timestamps.specs.Composite.{members}
+use Rattle.occurrences.specs.Packed.{wordsOf}
+use Rattle.occurrences.proofs.Words.{latestOf}
 use Rattle.forms.specs.Forms.{each}
 use Rattle.detections.specs.Findings.{stamp}
 use Rattle.detections.specs.Steps.{stampBytes}
@@ -14,38 +17,34 @@ use Rattle.detections.proofs.put_stamps.Statement.{statement}
 use Rattle.detections.proofs.put_stamps.Tie as tie
 
 abbrev Inv-loop : tie.InvT-loop
-Inv-loop out₀ at c loggers to₀ k₀ out to k = (k ≤ 8) × Writes out₀ at (each stamp (map (written loggers) (members c))) out to (stampsFrom loggers c k)
+Inv-loop out₀ at o ticks loggers to₀ k₀ out to k =
+    (k ≤ 8) × Writes out₀ at (each stamp (map (written loggers) (members (latestOf (wordsOf ticks o))))) out to (stampsFrom (wordsOf ticks o) loggers k)
 
 abbrev μ-loop : tie.MeasureT-loop
-μ-loop out₀ at c loggers to₀ k₀ out to k = 8 - k
+μ-loop out₀ at o ticks loggers to₀ k₀ out to k = 8 - k
 
 loop-holds : tie.Need-loop-holds Inv-loop μ-loop
 loop-holds c =
     let s = c .before in
-    (search needs, rw (stamps-start (s .args .t4) (s .args .t3)) (writes-start _ _ _ (s .pre)))
-
-mul-tick : tie.Need-mul-tick Inv-loop μ-loop
-mul-tick c = search needs
-
-element-copy-out-tick : tie.Need-element-copy-out-tick Inv-loop μ-loop
-element-copy-out-tick c = search needs
-
-element-copy-out-put-stamp : tie.Need-element-copy-out-put-stamp Inv-loop μ-loop
-element-copy-out-put-stamp c = search needs
+    (search needs, rw (stamps-start (wordsOf (now (s .args .ticks)) (now (s .args .o))) (now (s .args .loggers))) (writes-start _ _ _ (s .pre)))
 
 mul-put-stamp : tie.Need-mul-put-stamp Inv-loop μ-loop
 mul-put-stamp c = search needs
 
-array-read-put-stamp : tie.Need-array-read-put-stamp Inv-loop μ-loop
-array-read-put-stamp c = search needs
+element-copy-out-put-stamp : tie.Need-element-copy-out-put-stamp Inv-loop μ-loop
+element-copy-out-put-stamp c = search needs
+
+word-at-requires : tie.Need-word-at-requires Inv-loop μ-loop
+word-at-requires c κs = search needs
 
 put-stamp-requires : tie.Need-put-stamp-requires Inv-loop μ-loop
 put-stamp-requires c κs =
     let a = c .before .before .before .before in
     let s = a .before .before .args in
     let k = a .loop .k in
-    let piece = stampBytes (presentAt (s .t3) k) (getD (s .t4) k 0) (getD (s .t3 .ticks) k tickZero) in
-    writes-room (a .loop .inv .1) piece (stampsFrom (s .t4) (s .t3) (k + 1)) (stamps-turn (s .t4) (s .t3) k (search needs))
+    let w = wordsOf (now (s .ticks)) (now (s .o)) in
+    let loggers = now (s .loggers) in
+    writes-room (a .loop .inv .1) (stampBytes (getD loggers k 0) (c .word-at .result)) (stampsFrom w loggers (k + 1)) (stamps-turn w loggers k _ (search needs) (c .word-at .ensures))
 
 add-k : tie.Need-add-k Inv-loop μ-loop
 add-k c = search needs
@@ -55,10 +54,11 @@ loop-less c = search needs
 
 loop-again : tie.Need-loop-again Inv-loop μ-loop
 loop-again c =
-    let w = c .before .before .put-stamp in
-    let a = c .before .before .before .before .before .before .before in
+    let put = c .before .before in
+    let a = put .before .before .before .before .before in
     let s = a .before .before .args in
-    (search needs, writes-turn (a .loop .inv .1) (stamps-turn (s .t4) (s .t3) (a .loop .k) (search needs)) (w .ensures))
+    let turn = stamps-turn (wordsOf (now (s .ticks)) (now (s .o))) (now (s .loggers)) (a .loop .k) _ (search needs) (put .before .word-at .ensures) in
+    (search needs, writes-turn (a .loop .inv .1) turn (put .put-stamp .ensures))
 
 same-length : tie.Need-same-length Inv-loop μ-loop
 same-length c = search needs
@@ -67,7 +67,7 @@ returns : tie.Need-returns Inv-loop μ-loop
 returns c =
     let a = c .before in
     let s = a .before .before .args in
-    writes-end (a .loop .inv .1) (stamps-end (s .t4) (s .t3) (a .loop .k) (search needs))
+    writes-end (a .loop .inv .1) (stamps-end (wordsOf (now (s .ticks)) (now (s .o))) (now (s .loggers)) (a .loop .k) (search needs))
 
 pub put-stamps-spec : {M : Type 1} → statement M
 put-stamps-spec =
@@ -76,11 +76,9 @@ put-stamps-spec =
     Inv-loop
     μ-loop
     loop-holds
-    mul-tick
-    element-copy-out-tick
-    element-copy-out-put-stamp
     mul-put-stamp
-    array-read-put-stamp
+    element-copy-out-put-stamp
+    word-at-requires
     put-stamp-requires
     add-k
     loop-less

@@ -1,91 +1,56 @@
--- `detections::write`: the node, the count and the stamps, the count and the events, one after the other.
-use Rattle.detections.proofs.Findings.{node-room, stamp-count-room, stamps-room, event-count-room, events-room, all-done}
+-- The node, the section of the stamps and the section of the events, one after the other.
+use denote.Ref.{now}
+use Rattle.occurrences.specs.Packed.{fromWords, occurrenceOf, wordsOf}
+use Rattle.detections.proofs.Findings.{all-done, events-room, node-room, stamps-room}
 use borrow.Author.Needs.{needs}
 use Rattle.detections.proofs.write.Statement.{statement}
 use Rattle.detections.proofs.write.Tie as tie
 
-stamp-count-requires : tie.Need-stamp-count-requires
-stamp-count-requires c κs = search needs
+element-copy-out-t12 : tie.Need-element-copy-out-t12
+element-copy-out-t12 c = search needs
 
-count-requires : tie.Need-count-requires
-count-requires c κs = search needs
+element-copy-out-t15 : tie.Need-element-copy-out-t15
+element-copy-out-t15 c = search needs
 
 put-u16-requires : tie.Need-put-u16-requires
 put-u16-requires c κs =
-    let m = c .before in
-    let s = m .before .before .before .before .before .before in
-    let d = s .args .d in
-    let n = m .before .stamp-count in
-    node-room (s .args .loggers) (d .node) (d .latest) (d .events) (n .result) (m .count .result) (n .ensures .0) (m .count .ensures) (s .args .out .now) (s .args .at) (s .pre)
+    let s = c .before .before .before .before in
+    node-room _ _ (occurrenceOf (now (s .args .ticks)) (now (s .args .o))) (now (s .args .out)) _ (s .pre)
 
-put-u16-requires-2 : tie.Need-put-u16-requires-2
-put-u16-requires-2 c κs =
+put-stamp-section-requires : tie.Need-put-stamp-section-requires
+put-stamp-section-requires c κs =
     let w₁ = c .before .before .before in
-    let m = w₁ .before .before in
-    let s = m .before .before .before .before .before .before in
-    let d = s .args .d in
-    let n = m .before .stamp-count in
-    stamp-count-room (s .args .loggers) (d .node) (d .latest) (d .events) (n .result) (m .count .result) (n .ensures .0) (m .count .ensures) _ _ (s .pre) (w₁ .put-u16 .ensures)
+    let s = w₁ .before .before .before .before .before in
+    stamps-room _ _ (occurrenceOf (now (s .args .ticks)) (now (s .args .o))) _ _ (s .pre) (w₁ .put-u16 .ensures)
 
-put-stamps-requires : tie.Need-put-stamps-requires
-put-stamps-requires c κs =
+put-event-section-requires : tie.Need-put-event-section-requires
+unfolding fromWords wordsOf
+put-event-section-requires c κs =
     let w₂ = c .before .before .before in
     let w₁ = w₂ .before .before .before .before in
-    let m = w₁ .before .before in
-    let s = m .before .before .before .before .before .before in
-    let d = s .args .d in
-    let n = m .before .stamp-count in
-    stamps-room (s .args .loggers) (d .node) (d .latest) (d .events) (n .result) (m .count .result) (n .ensures .0) (m .count .ensures) _ _ (s .pre) (w₁ .put-u16 .ensures) (w₂ .put-u162 .ensures)
-
-put-u16-requires-3 : tie.Need-put-u16-requires-3
-put-u16-requires-3 c κs =
-    let w₃ = c .before .before .before in
-    let w₂ = w₃ .before .before .before .before in
-    let w₁ = w₂ .before .before .before .before in
-    let m = w₁ .before .before in
-    let s = m .before .before .before .before .before .before in
-    let d = s .args .d in
-    let n = m .before .stamp-count in
-    event-count-room (s .args .loggers) (d .node) (d .latest) (d .events) (n .result) (m .count .result) (n .ensures .0) (m .count .ensures) _ _ (s .pre) (w₁ .put-u16 .ensures) (w₂ .put-u162 .ensures) (w₃ .put-stamps .ensures)
-
-put-events-requires : tie.Need-put-events-requires
-put-events-requires c κs =
-    let w₄ = c .before .before .before in
-    let w₃ = w₄ .before .before .before .before in
-    let w₂ = w₃ .before .before .before .before in
-    let w₁ = w₂ .before .before .before .before in
-    let m = w₁ .before .before in
-    let s = m .before .before .before .before .before .before in
-    let d = s .args .d in
-    let n = m .before .stamp-count in
-    events-room (s .args .loggers) (d .node) (d .latest) (d .events) (n .result) (m .count .result) (n .ensures .0) (m .count .ensures) _ _ (s .pre) (w₁ .put-u16 .ensures) (w₂ .put-u162 .ensures) (w₃ .put-stamps .ensures) {a₄ = w₄ .put-u163 .result} {l₄ = w₄ .put-u163 .last .0} (w₄ .put-u163 .ensures)
+    let s = w₁ .before .before .before .before .before in
+    events-room _ _ (occurrenceOf (now (s .args .ticks)) (now (s .args .o))) _ _ (s .pre) (w₁ .put-u16 .ensures) {b = w₂ .put-stamp-section .result} {l₂ = w₂ .put-stamp-section .last .0} (w₂ .put-stamp-section .ensures)
 
 same-length : tie.Need-same-length
 same-length c = search needs
 
 returns : tie.Need-returns
+unfolding fromWords wordsOf
 returns c =
-    let w₅ = c .before .before in
-    let w₄ = w₅ .before .before .before .before in
-    let w₃ = w₄ .before .before .before .before in
+    let w₃ = c .before .before in
     let w₂ = w₃ .before .before .before .before in
     let w₁ = w₂ .before .before .before .before in
-    let m = w₁ .before .before in
-    let s = m .before .before .before .before .before .before in
-    let d = s .args .d in
-    let n = m .before .stamp-count in
-    all-done (s .args .loggers) (d .node) (d .latest) (d .events) (n .result) (m .count .result) (n .ensures .0) (m .count .ensures) _ _ (s .pre) (w₁ .put-u16 .ensures) (w₂ .put-u162 .ensures) (w₃ .put-stamps .ensures) (w₄ .put-u163 .ensures) (w₅ .put-events .ensures)
+    let s = w₁ .before .before .before .before .before in
+    all-done _ _ (occurrenceOf (now (s .args .ticks)) (now (s .args .o))) _ _ (s .pre) (w₁ .put-u16 .ensures) (w₂ .put-stamp-section .ensures) (w₃ .put-event-section .ensures)
 
 pub write-spec : {M : Type 1} → statement M
 write-spec =
     tie.close
     (tie.spec
-    stamp-count-requires
-    count-requires
+    element-copy-out-t12
+    element-copy-out-t15
     put-u16-requires
-    put-u16-requires-2
-    put-stamps-requires
-    put-u16-requires-3
-    put-events-requires
+    put-stamp-section-requires
+    put-event-section-requires
     same-length
     returns)

@@ -1,18 +1,17 @@
 -- One of four ways.
-use mathlib.Core.List.{[], _∷_, _++_}
 use mathlib.Core.Path.{_≡_, sym, ap, _∙_}
-use Prim.Native.Nat.{_<_}
+use Prim.Native.Nat.{_-_, _<_}
 use native.Mathlib.Omega.{arith}
 use denote.Ref.{now}
 use lib.ListN.{length, take}
 use lib.Seq.{length-take-le}
 use Rattle.detections.specs.Views.{findingOf}
-use Rattle.detections.proofs.Sizes.{finding-least}
-use Rattle.detections.proofs.Writing.{beyond-none, beyond-wrote, wrote-prefix}
-use Rattle.occurrences.specs.Packed.{held}
+use Rattle.detections.proofs.Sizes.{beyond-finding}
+use Rattle.detections.proofs.Writing.{beyond-none, wrote-prefix}
+use Rattle.occurrences.specs.Packed.{occurrenceOf}
 use Rattle.occurrences.proofs.Packed.{held-more, length-held}
-use Rattle.emissions.specs.Emissions.{emitted}
-use Rattle.emissions.proofs.Emitting.{emit-stopped, emit-ninth, emit-no-room, emit-go}
+use Rattle.emissions.specs.Emissions.{emitOf}
+use Rattle.emissions.proofs.Emitting.{emit-stopped, emit-ninth, emit-no-room, emit-go, has-room, no-room}
 use borrow.Author.Needs.{needs}
 use Rattle.emissions.proofs.emit_one.Statement.{statement}
 use Rattle.emissions.proofs.emit_one.Tie as tie
@@ -26,83 +25,96 @@ returns c =
     let start = told .before .before in
     (emit-stopped _ _ _ _ _ (sym (told .is-reached .ensures) ∙ c .if1 .taken), beyond-none (start .pre .0) (start .pre .1))
 
+stopped-requires : tie.Need-stopped-requires
+stopped-requires c κs = search needs
+
 returns-2 : tie.Need-returns-2
 returns-2 c =
-    let go = c .before .before .before in
+    let full = c .before in
+    let go = full .before .before .before in
     let told = go .before in
     let start = told .before .before in
-    let eight : length (now (start .args .made)) ≡ 8 = search needs in
-    let many = length-held (now (start .args .made)) (start .args .e .made) in
-    (emit-ninth _ _ _ _ _ (sym (told .is-reached .ensures) ∙ go .if1 .left) (omega (arith, many, eight, c .if2 .taken)), beyond-none (start .pre .0) (start .pre .1))
-
-unpacked-requires : tie.Need-unpacked-requires
-unpacked-requires c κs = search needs
-
-size-requires : tie.Need-size-requires
-size-requires c κs = search needs
+    let row = now (start .args .made) in
+    let eight : length row ≡ 8 = search needs in
+    let many = length-held (now (start .args .ticks)) row (start .args .e .made) in
+    let r = c .stopped .ensures in (
+      ap (λ x. emitOf (now (start .args .ticks)) x row (now (start .args .out))) r ∙ emit-ninth _ _ _ _ _ (sym (told .is-reached .ensures) ∙ go .if1 .left) (omega (arith, many, eight, full .if2 .taken)),
+      rw r (beyond-none (start .pre .0) (start .pre .1)),
+    )
 
 sub-left : tie.Need-sub-left
 sub-left c = search needs
 
+fits-requires : tie.Need-fits-requires
+fits-requires c κs = search needs
+
+stopped-requires-2 : tie.Need-stopped-requires-2
+stopped-requires-2 c κs = search needs
+
 returns-3 : tie.Need-returns-3
 returns-3 c =
-    let sized = c .before in
-    let found = sized .before .before .before in
-    let few = found .before in
+    let full = c .before in
+    let fit = full .before in
+    let few = fit .before in
     let go = few .before .before .before in
     let told = go .before in
     let start = told .before .before in
-    let size = sized .size .ensures (now (start .args .loggers)) in
+    let size = no-room (now (start .args .loggers)) (start .args .place) (occurrenceOf (now (start .args .ticks)) (now (start .args .o))) (length (now (start .args .out)) - start .args .e .at) (fit .fits2 .ensures) (full .if3 .taken) in
     let l : length (take (start .args .e .at) (now (start .args .out))) ≡ start .args .e .at = length-take-le _ _ (start .pre .0) in
-    let many = length-held (now (start .args .made)) (start .args .e .made) in (
-      emit-no-room _ _ _ _ _ (sym (told .is-reached .ensures) ∙ go .if1 .left) (omega (arith, many, few .if2 .left)) (omega (arith, size, l, c .if3 .taken, start .pre .0)) ∙ ap (emitted _ _ _ _) (found .unpacked .ensures),
-      beyond-none (start .pre .0) (start .pre .1),
+    let many = length-held (now (start .args .ticks)) (now (start .args .made)) (start .args .e .made) in
+    let r = c .stopped2 .ensures in (
+      ap (λ x. emitOf (now (start .args .ticks)) x (now (start .args .made)) (now (start .args .out))) r
+          ∙ emit-no-room _ _ _ _ _ (sym (told .is-reached .ensures) ∙ go .if1 .left) (omega (arith, many, few .if2 .left)) (omega (arith, size, l, start .pre .0)),
+      rw r (beyond-none (start .pre .0) (start .pre .1)),
     )
 
-mul-t21 : tie.Need-mul-t21
-mul-t21 c = search needs
+write-requires : tie.Need-write-requires
+write-requires c κs =
+    let room = c .before in
+    let fit = room .before in
+    let start = fit .before .before .before .before .before .before .before in
+    let size = has-room (now (start .args .loggers)) (start .args .place) (occurrenceOf (now (start .args .ticks)) (now (start .args .o))) (length (now (start .args .out)) - start .args .e .at) (fit .fits2 .ensures) (room .if3 .left) in
+    omega (arith, size, start .pre .0)
+
+mul-t17 : tie.Need-mul-t17
+mul-t17 c = search needs
 
 element-set-from-made : tie.Need-element-set-from-made
 element-set-from-made c = search needs
 
-write-requires : tie.Need-write-requires
-write-requires c κs =
-    let room = c .before .before .before in
-    let sized = room .before in
-    let start = sized .before .before .before .before .before .before .before .before .before .before in
-    let size = sized .size .ensures (now (start .args .loggers)) in
-    omega (arith, size, room .if3 .left, start .pre .0)
+number-of-requires : tie.Need-number-of-requires
+number-of-requires c κs = search needs
 
-add-t21 : tie.Need-add-t21
-add-t21 c = search needs
+add-t17 : tie.Need-add-t17
+add-t17 c = search needs
 
-add-t32 : tie.Need-add-t32
-add-t32 c = search needs
+add-t29 : tie.Need-add-t29
+add-t29 c = search needs
 
 same-length : tie.Need-same-length
 same-length c = search needs
 
 returns-4 : tie.Need-returns-4
 returns-4 c =
-    let write = c .before .before in
-    let room = write .before .before .before .before in
-    let sized = room .before in
-    let found = sized .before .before .before in
-    let few = found .before in
+    let write = c .before .before .before .before in
+    let room = write .before .before in
+    let fit = room .before in
+    let few = fit .before in
     let go = few .before .before .before in
     let told = go .before in
     let start = told .before .before in
-    let size = sized .size .ensures (now (start .args .loggers)) in
+    let ticks = now (start .args .ticks) in
+    let o = occurrenceOf ticks (now (start .args .o)) in
+    let size = has-room (now (start .args .loggers)) (start .args .place) o (length (now (start .args .out)) - start .args .e .at) (fit .fits2 .ensures) (room .if3 .left) in
     let l : length (take (start .args .e .at) (now (start .args .out))) ≡ start .args .e .at = length-take-le _ _ (start .pre .0) in
     let row = now (start .args .made) in
     let n = start .args .e .made in
-    let many = length-held row n in
+    let many = length-held ticks row n in
     let eight : length row ≡ 8 = search needs in
     let in-row : n < length row = omega (arith, eight, few .if2 .left) in
-    let more = held-more row n (now (start .args .o)) in-row ∙ ap (λ x. held row n ++ (x ∷ [])) (sym (found .unpacked .ensures)) in
     let w = write .write .ensures in (
-      emit-go _ _ _ _ _ _ _ (sym (told .is-reached .ensures) ∙ go .if1 .left) (omega (arith, many, few .if2 .left)) (omega (arith, size, l, room .if3 .left, start .pre .0)) more (wrote-prefix (start .pre .0) w) ∙ ap (emitted _ _ _ _) (found .unpacked .ensures),
-      beyond-wrote (omega (arith, size, room .if3 .left, start .pre .0)) (omega (arith, finding-least (findingOf (now (start .args .loggers)) (start .args .place) (found .unpacked .result .latest) (found .unpacked .result .events)))) (start .pre .1) w,
+      emit-go _ _ _ _ _ _ _ _ (sym (told .is-reached .ensures) ∙ go .if1 .left) (omega (arith, many, few .if2 .left)) (omega (arith, size, l, start .pre .0)) (held-more ticks row n (now (start .args .o)) in-row) (wrote-prefix (start .pre .0) w) (c .number-of .ensures),
+      beyond-finding (findingOf (now (start .args .loggers)) (start .args .place) (o .latest) (o .events)) (omega (arith, size, start .pre .0)) (start .pre .1) w,
     )
 
 pub emit-one-spec : {M : Type 1} → statement M
@@ -111,15 +123,17 @@ emit-one-spec =
     (tie.spec
     is-reached-requires
     returns
+    stopped-requires
     returns-2
-    unpacked-requires
-    size-requires
     sub-left
+    fits-requires
+    stopped-requires-2
     returns-3
-    mul-t21
-    element-set-from-made
     write-requires
-    add-t21
-    add-t32
+    mul-t17
+    element-set-from-made
+    number-of-requires
+    add-t17
+    add-t29
     same-length
     returns-4)

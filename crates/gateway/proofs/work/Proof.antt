@@ -1,10 +1,10 @@
 -- Turned back, or the run.
 use mathlib.Core.Path.{sym, ap, _∙_}
-use borrow.Author.Tests.{not-true, not-false}
+use borrow.Author.Tests.{eqb-true, not-true, not-false}
 use native.Mathlib.Omega.{arith}
 use lib.ListN.{length}
 use Rattle.gateway.proofs.Theorems.{told}
-use Rattle.gateway.proofs.Working.{both-accepted, passage-refused, plan-refused, run-answers, ticks-fit}
+use Rattle.gateway.proofs.Working.{both-accepted, noted-themselves, passage-refused, plan-refused, ran-noted, run-answers}
 use Rattle.gateway.specs.Working.{turnedBack}
 use borrow.Author.Needs.{needs}
 use Rattle.gateway.proofs.work.Statement.{statement}
@@ -47,26 +47,21 @@ turned-back-requires-2 c κs = search needs
 returns-2 : tie.Need-returns-2
 returns-2 c =
     let q = c .before .before .before .before in
-    let p = q .before .before .before .before in
+    let no-fault = q .before .before .before .before .before in
+    let p = no-fault .before .before in
     let start = p .before .before .before .before in
     told (start .args .plan .now) (start .args .passage .now) (length (start .args .output .now)) _ _ _ _
     (λ i. omega (arith, p .before .before .before .shared-slice-known .given i)) (λ i. omega (arith, p .before .before .shared-slice-known2 .given i))
-    (passage-refused _ _ _ (p .read-plan .result) (p .read-plan .ensures) (sym (q .before .before .before .is-none .ensures) ∙ not-false _ (q .before .before .if1 .left))
-    (q .check-passage .result) (q .check-passage .ensures) (sym (c .before .before .before .is-none2 .ensures) ∙ not-true _ (c .before .before .if2 .taken))
+    (passage-refused _ _ _ (p .read-plan .result) (p .read-plan .ensures) (sym (no-fault .before .is-none .ensures) ∙ not-false _ (no-fault .if1 .left))
+    (q .check-passage .result) (q .check-passage .ensures .0) (sym (c .before .before .before .is-none2 .ensures) ∙ not-true _ (c .before .before .if2 .taken))
     ∙ ap (λ n. turnedBack n (q .check-passage .result .place)) (sym (c .before .number2 .ensures)))
     (c .turned-back2 .ensures _)
 
 run-events-requires : tie.Need-run-events-requires
 run-events-requires c κs =
-    let q = c .before .before .before in
-    let p = q .before .before .before .before in
-    let start = p .before .before .before .before in
-    ticks-fit (start .args .plan .now) (start .args .passage .now) 0 (p .read-plan .result) (p .read-plan .ensures) (sym (q .before .before .before .is-none .ensures) ∙ not-false _ (q .before .before .if1 .left))
-    (q .check-passage .result) (q .check-passage .ensures) (λ i. omega (arith, p .before .before .shared-slice-known2 .given i))
-    (sym (c .before .before .is-none2 .ensures) ∙ not-false _ (c .before .if2 .left))
-
-number-of-requires : tie.Need-number-of-requires
-number-of-requires c κs = search needs
+    let checked = c .before .before .before .before in
+    let q = checked .before .before in
+    noted-themselves _ _ _ _ _ (q .check-passage .ensures .1 (eqb-true _ _ (sym (checked .before .is-none2 .ensures) ∙ not-false _ (checked .if2 .left))))
 
 place-of-requires : tie.Need-place-of-requires
 place-of-requires c κs = search needs
@@ -76,15 +71,18 @@ same-length c = search needs
 
 returns-3 : tie.Need-returns-3
 returns-3 c =
-    let run = c .before .before .before .before in
-    let q = run .before .before .before .before in
-    let p = q .before .before .before .before in
+    let run = c .before .before .before in
+    let checked = run .before .before .before .before .before in
+    let q = checked .before .before in
+    let no-fault = q .before .before .before .before .before in
+    let p = no-fault .before .before in
     let start = p .before .before .before .before in
+    let accepted = sym (checked .before .is-none2 .ensures) ∙ not-false _ (checked .if2 .left) in
     told (start .args .plan .now) (start .args .passage .now) (length (start .args .output .now)) _ _ _ _
     (λ i. omega (arith, p .before .before .before .shared-slice-known .given i)) (λ i. omega (arith, p .before .before .shared-slice-known2 .given i))
-    (both-accepted _ _ _ (p .read-plan .result) (p .read-plan .ensures) (sym (q .before .before .before .is-none .ensures) ∙ not-false _ (q .before .before .if1 .left))
-    (q .check-passage .result) (q .check-passage .ensures) (sym (run .before .before .before .is-none2 .ensures) ∙ not-false _ (run .before .before .if2 .left)))
-    (run-answers _ _ _ _ _ _ (run .run-events .ensures) (c .before .number-of .ensures) (c .place-of .ensures))
+    (both-accepted _ _ _ (p .read-plan .result) (p .read-plan .ensures) (sym (no-fault .before .is-none .ensures) ∙ not-false _ (no-fault .if1 .left))
+    (q .check-passage .result) (q .check-passage .ensures .0) accepted)
+    (run-answers _ _ _ _ _ (ran-noted _ _ _ _ _ (q .check-passage .ensures .1 (eqb-true _ _ accepted)) _ _ _ _ (run .run-events .ensures)) (c .place-of .ensures))
 
 pub work-spec : {M : Type 1} → statement M
 work-spec =
@@ -101,7 +99,6 @@ work-spec =
     turned-back-requires-2
     returns-2
     run-events-requires
-    number-of-requires
     place-of-requires
     same-length
     returns-3)

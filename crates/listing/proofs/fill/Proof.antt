@@ -5,7 +5,7 @@ use Prim.Native.Nat.{_+_, _*_, _≤_}
 use native.Mathlib.Omega.{arith}
 use lib.ListN.{length, take}
 use borrow.Author.Tests.{not-true, not-false}
-use Rattle.detections.specs.Views.{answerOf}
+use Rattle.readings.specs.Views.{answerOf}
 use Rattle.detections.proofs.Writing.{wrote-prefix}
 use Rattle.listing.specs.Text.{linesAt}
 use Rattle.listing.proofs.Lines.{lines-turn, lines-stop, lines-none}

@@ -4,7 +4,7 @@ use mathlib.Core.List.{List}
 use Prim.Native.Nat.{ℕ, _+_, _*_, _-_, _≤_}
 use native.Mathlib.Omega.{arith}
 use lib.ListN.{length, take, drop, length-take}
-use Rattle.detections.specs.Steps.{noStamp}
+use Rattle.readings.specs.Steps.{noStamp}
 use Rattle.detections.specs.Writing.{Wrote}
 use Rattle.detections.proofs.Writing.{wrote-none, wrote-then}
 use Rattle.listing.specs.Text.{space, listed, stampText}

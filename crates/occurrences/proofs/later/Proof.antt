@@ -1,4 +1,4 @@
--- By the four cases.
+-- By the three cases.
 use mathlib.Core.Path.{sym, _∙_}
 use borrow.Author.Tests.{eq-eqb, ne-eqb}
 use Rattle.occurrences.specs.Steps.{laterOf}
@@ -17,17 +17,12 @@ returns-2 : tie.Need-returns-2
 unfolding laterOf
 returns-2 c = rw (ne-eqb _ _ (c .before .before .if1 .left), sym (c .before .own-before .ensures) ∙ c .if2 .taken)
 
+clearly-requires : tie.Need-clearly-requires
+clearly-requires c κs = search needs
+
 returns-3 : tie.Need-returns-3
 unfolding laterOf
-returns-3 c = rw (ne-eqb _ _ (c .before .before .before .if1 .left), sym (c .before .before .own-before .ensures) ∙ c .before .if2 .left, eq-eqb _ _ (c .if3 .taken))
-
-floor-requires : tie.Need-floor-requires
-floor-requires c κs = search needs
-
-returns-4 : tie.Need-returns-4
-unfolding laterOf
-returns-4 c = rw (ne-eqb _ _ (c .before .before .before .before .if1 .left), sym (c .before .before .before .own-before .ensures) ∙ c .before .before .if2 .left, ne-eqb _ _ (c .before .if3 .left), c .floor .ensures)
+returns-3 c = rw (ne-eqb _ _ (c .before .before .before .if1 .left), sym (c .before .before .own-before .ensures) ∙ c .before .if2 .left) (c .clearly .ensures)
 
 pub later-spec : {M : Type 1} → statement M
-later-spec =
-    tie.close (tie.spec returns own-before-requires returns-2 returns-3 floor-requires returns-4)
+later-spec = tie.close (tie.spec returns own-before-requires returns-2 clearly-requires returns-3)

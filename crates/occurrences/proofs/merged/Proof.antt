@@ -1,61 +1,37 @@
--- The words before k are the later ones.
-use mathlib.Core.Path.{_≡_, refl}
-use Prim.Native.Nat.{_≤_, _-_}
+-- The bytes before k name the later ones.
+use Prim.Native.Nat.{max, _≤_, _-_}
+use mathlib.Core.Path.{_≡_}
 use native.Mathlib.Omega.{arith}
-use lib.ListN.{length}
-use Rattle.occurrences.specs.Steps.{Merged}
-use Rattle.occurrences.proofs.Steps.{merged-turn}
+use lib.ListN.{getD}
+use Rattle.occurrences.specs.Steps.{tickAt}
+use Rattle.occurrences.proofs.Bytes.{Made, made-start, made-turn}
 use borrow.Author.Needs.{needs}
 use Rattle.occurrences.proofs.merged.Statement.{statement}
 use Rattle.occurrences.proofs.merged.Tie as tie
 
 abbrev Inv-loop : tie.InvT-loop
-Inv-loop a b c₀ k₀ c k = (2 ≤ k) × (k ≤ 10) × (length c ≡ 10) × Merged k a b c
+Inv-loop a b ticks r₀ k₀ r k = (k ≤ 8) × Made (λ j n. getD ticks n 0 ≡ max (tickAt ticks a j) (tickAt ticks b j)) k r
 
 abbrev μ-loop : tie.MeasureT-loop
-μ-loop a b c₀ k₀ c k = 10 - k
-
-element-copy-out-c : tie.Need-element-copy-out-c Inv-loop μ-loop
-element-copy-out-c c = search needs
-
-element-copy-out-c-2 : tie.Need-element-copy-out-c-2 Inv-loop μ-loop
-element-copy-out-c-2 c = search needs
-
-array-write-c : tie.Need-array-write-c Inv-loop μ-loop
-array-write-c c = search needs
-
-element-copy-out-c-3 : tie.Need-element-copy-out-c-3 Inv-loop μ-loop
-element-copy-out-c-3 c = search needs
-
-element-copy-out-c-4 : tie.Need-element-copy-out-c-4 Inv-loop μ-loop
-element-copy-out-c-4 c = search needs
-
-array-write-c-2 : tie.Need-array-write-c-2 Inv-loop μ-loop
-array-write-c-2 c = search needs
+μ-loop a b ticks r₀ k₀ r k = 8 - k
 
 loop-holds : tie.Need-loop-holds Inv-loop μ-loop
-loop-holds c = (search needs, search needs, refl, record { low = refl; high = refl; words = λ j l m. absurd (omega (arith, l, m)) })
+loop-holds c = (search needs, made-start _)
 
-mul-larger : tie.Need-mul-larger Inv-loop μ-loop
-mul-larger c = search needs
+event-at-requires : tie.Need-event-at-requires Inv-loop μ-loop
+event-at-requires c κs = search needs
 
-element-copy-out-larger : tie.Need-element-copy-out-larger Inv-loop μ-loop
-element-copy-out-larger c = search needs
+event-at-requires-2 : tie.Need-event-at-requires-2 Inv-loop μ-loop
+event-at-requires-2 c κs = search needs
 
-mul-larger-2 : tie.Need-mul-larger-2 Inv-loop μ-loop
-mul-larger-2 c = search needs
+later-of-requires : tie.Need-later-of-requires Inv-loop μ-loop
+later-of-requires c κs = search needs
 
-element-copy-out-larger-2 : tie.Need-element-copy-out-larger-2 Inv-loop μ-loop
-element-copy-out-larger-2 c = search needs
+mul-r : tie.Need-mul-r Inv-loop μ-loop
+mul-r c = search needs
 
-larger-requires : tie.Need-larger-requires Inv-loop μ-loop
-larger-requires c κs = search needs
-
-mul-c : tie.Need-mul-c Inv-loop μ-loop
-mul-c c = search needs
-
-array-write-c-3 : tie.Need-array-write-c-3 Inv-loop μ-loop
-array-write-c-3 c = search needs
+shl-r : tie.Need-shl-r Inv-loop μ-loop
+shl-r c = search needs
 
 add-k : tie.Need-add-k Inv-loop μ-loop
 add-k c = search needs
@@ -64,10 +40,13 @@ loop-less : tie.Need-loop-less Inv-loop μ-loop
 loop-less c = search needs
 
 loop-again : tie.Need-loop-again Inv-loop μ-loop
-loop-again c = (search needs, search needs, search needs, merged-turn _ _ _ (c .before .before .before .before .loop .inv .0) (search needs) _ _ (c .larger .ensures) (c .before .before .before .before .loop .inv .3))
+loop-again c =
+    let at = c .before .before .before .before in
+    let e = rw (c .before .before .event-at .ensures .0, c .before .event-at2 .ensures .0) at (c .later-of .ensures .1) in
+    (search needs, made-turn _ _ _ _ (c .before .before .before .loop-test .taken) (c .later-of .ensures .0) e (at .loop .inv .1))
 
 returns : tie.Need-returns Inv-loop μ-loop
-returns c = let e : c .before .loop .k ≡ 10 = omega (arith, c .before .loop .inv .1, c .loop-test .left) in rw e at (c .before .loop .inv .3)
+returns c = λ j l. c .before .loop .inv .1 .bytes j (omega (arith, l, c .loop-test .left))
 
 pub merged-spec : {M : Type 1} → statement M
 merged-spec =
@@ -75,20 +54,12 @@ merged-spec =
     (tie.spec
     Inv-loop
     μ-loop
-    element-copy-out-c
-    element-copy-out-c-2
-    array-write-c
-    element-copy-out-c-3
-    element-copy-out-c-4
-    array-write-c-2
     loop-holds
-    mul-larger
-    element-copy-out-larger
-    mul-larger-2
-    element-copy-out-larger-2
-    larger-requires
-    mul-c
-    array-write-c-3
+    event-at-requires
+    event-at-requires-2
+    later-of-requires
+    mul-r
+    shl-r
     add-k
     loop-less
     loop-again

@@ -1,4 +1,4 @@
--- Where its logger has a place, one word; else none.
+-- Where its logger has a place, one byte; else none.
 use Rattle.occurrences.proofs.FileEvents.{event-placed, event-without-place}
 use borrow.Author.Needs.{needs}
 use Rattle.occurrences.proofs.of_event.Statement.{statement}
@@ -19,20 +19,20 @@ array-write-c-2 c = search needs
 add-c : tie.Need-add-c
 add-c c = search needs
 
-add-c-2 : tie.Need-add-c-2
-add-c-2 c = search needs
-
 mul-c : tie.Need-mul-c
 mul-c c = search needs
+
+shl-c : tie.Need-shl-c
+shl-c c = search needs
 
 array-write-c-3 : tie.Need-array-write-c-3
 array-write-c-3 c = search needs
 
 returns : tie.Need-returns
-returns c = event-placed _ _ _ _ (c .before .before .before .none .ensures) (c .before .before .marked .ensures) (c .before .if1 .taken)
+returns c = λ ticks tick z t. event-placed (record { logger = c .before .before .before .args .logger; tick = record { 0 = tick } }) _ _ _ (c .before .before .none .ensures) (c .before .marked .ensures) ticks z (c .before .before .before .pre) t (c .if1 .taken)
 
 returns-2 : tie.Need-returns-2
-returns-2 c = event-without-place _ _ _ _ (c .before .before .none .ensures) (c .before .marked .ensures) (c .if1 .left)
+returns-2 c = λ ticks tick z t. event-without-place (record { logger = c .before .before .before .args .logger; tick = record { 0 = tick } }) _ _ _ (c .before .before .none .ensures) (c .before .marked .ensures) ticks z (c .if1 .left)
 
 pub of-event-spec : {M : Type 1} → statement M
 of-event-spec =
@@ -43,8 +43,8 @@ of-event-spec =
     array-write-c
     array-write-c-2
     add-c
-    add-c-2
     mul-c
+    shl-c
     array-write-c-3
     returns
     returns-2)

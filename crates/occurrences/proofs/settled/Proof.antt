@@ -1,37 +1,34 @@
--- The words before k are those kept.
-use mathlib.Core.Path.{_≡_}
+-- The bytes before k name those kept.
 use Prim.Native.Nat.{_≤_, _-_}
+use mathlib.Core.Path.{_≡_, ap, _∙_}
 use native.Mathlib.Omega.{arith}
-use lib.ListN.{length}
-use Rattle.occurrences.specs.Steps.{Kept}
-use Rattle.occurrences.proofs.Steps.{kept-start, kept-turn}
+use lib.ListN.{getD}
+use Rattle.occurrences.specs.Steps.{keptOf, tickAt}
+use Rattle.occurrences.proofs.Bytes.{Made, made-start, made-turn}
 use borrow.Author.Needs.{needs}
 use Rattle.occurrences.proofs.settled.Statement.{statement}
 use Rattle.occurrences.proofs.settled.Tie as tie
 
 abbrev Inv-loop : tie.InvT-loop
-Inv-loop f c r₀ k₀ r k = (2 ≤ k) × (k ≤ 10) × (length r ≡ 10) × Kept k f c r
+Inv-loop c f ticks r₀ k₀ r k = (k ≤ 8) × Made (λ j n. getD ticks n 0 ≡ keptOf f (tickAt ticks c j)) k r
 
 abbrev μ-loop : tie.MeasureT-loop
-μ-loop f c r₀ k₀ r k = 10 - k
+μ-loop c f ticks r₀ k₀ r k = 8 - k
 
 loop-holds : tie.Need-loop-holds Inv-loop μ-loop
-loop-holds c = (search needs, search needs, search needs, kept-start _ _)
+loop-holds c = (search needs, made-start _)
 
-mul-kept : tie.Need-mul-kept Inv-loop μ-loop
-mul-kept c = search needs
-
-array-read-kept : tie.Need-array-read-kept Inv-loop μ-loop
-array-read-kept c = search needs
+event-at-requires : tie.Need-event-at-requires Inv-loop μ-loop
+event-at-requires c κs = search needs
 
 kept-requires : tie.Need-kept-requires Inv-loop μ-loop
-kept-requires c κs = search needs
+kept-requires c κs = (search needs, c .before .before .before .pre)
 
 mul-r : tie.Need-mul-r Inv-loop μ-loop
 mul-r c = search needs
 
-array-write-r : tie.Need-array-write-r Inv-loop μ-loop
-array-write-r c = search needs
+shl-r : tie.Need-shl-r Inv-loop μ-loop
+shl-r c = search needs
 
 add-k : tie.Need-add-k Inv-loop μ-loop
 add-k c = search needs
@@ -40,10 +37,13 @@ loop-less : tie.Need-loop-less Inv-loop μ-loop
 loop-less c = search needs
 
 loop-again : tie.Need-loop-again Inv-loop μ-loop
-loop-again c = (search needs, search needs, search needs, kept-turn _ _ _ (c .before .before .loop .inv .0) (search needs) _ _ (c .kept .ensures) (c .before .before .loop .inv .3))
+loop-again c =
+    let at = c .before .before .before in
+    let e = ap (λ n. keptOf (at .before .args .f) (getD (at .before .args .ticks .now) n 0)) (c .before .event-at .ensures .0) in
+    (search needs, made-turn _ _ _ _ (c .before .before .loop-test .taken) (c .kept .ensures .0) (c .kept .ensures .1 ∙ e) (at .loop .inv .1))
 
 returns : tie.Need-returns Inv-loop μ-loop
-returns c = let e : c .before .loop .k ≡ 10 = omega (arith, c .before .loop .inv .1, c .loop-test .left) in rw e at (c .before .loop .inv .3)
+returns c = λ j l. c .before .loop .inv .1 .bytes j (omega (arith, l, c .loop-test .left))
 
 pub settled-spec : {M : Type 1} → statement M
 settled-spec =
@@ -52,11 +52,10 @@ settled-spec =
     Inv-loop
     μ-loop
     loop-holds
-    mul-kept
-    array-read-kept
+    event-at-requires
     kept-requires
     mul-r
-    array-write-r
+    shl-r
     add-k
     loop-less
     loop-again

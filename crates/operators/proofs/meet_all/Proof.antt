@@ -10,23 +10,23 @@ use Rattle.detections.specs.Writing.{Beyond}
 use Rattle.detections.proofs.Writing.{beyond-none, beyond-then}
 use Rattle.occurrences.specs.Packed.{held}
 use Rattle.emissions.specs.Emissions.{emitOf}
+use Rattle.arrivals.specs.Arrivals.{settingOf}
 use Rattle.operators.specs.Steps.{meeting, metStep}
-use Rattle.operators.specs.Turns.{settingOf}
 use Rattle.operators.proofs.Turns.{arrival-end, arrival-turn, met-step}
 use Rattle.operators.proofs.meet_all.Statement.{statement}
 use Rattle.operators.proofs.meet_all.Tie as tie
 
 abbrev Inv-loop : tie.InvT-loop
-Inv-loop list₀ waiting made₀ arrivals count node place ratio loggers out₀ n l₀ f₀ i₀ list made out l f i = (i ≤ n) × (length out ≡ length out₀) × Beyond out₀ out (f₀ .at) (f .findings) (f .at) × (fold (metStep (settingOf (length out₀) ratio loggers) node place) (drop i (held arrivals count)) (meeting (held list l) (emitOf f made out)) ≡ fold (metStep (settingOf (length out₀) ratio loggers) node place) (held arrivals count) (meeting (held list₀ l₀) (emitOf f₀ made₀ out₀)))
+Inv-loop list₀ waiting made₀ arrivals count node place ratio ticks loggers out₀ n l₀ f₀ i₀ list made out l f i = (i ≤ n) × (length out ≡ length out₀) × Beyond out₀ out (f₀ .at) (f .findings) (f .at) × (fold (metStep (settingOf (length out₀) ratio loggers) node place) (drop i (held ticks arrivals count)) (meeting (held ticks list l) (emitOf ticks f made out)) ≡ fold (metStep (settingOf (length out₀) ratio loggers) node place) (held ticks arrivals count) (meeting (held ticks list₀ l₀) (emitOf ticks f₀ made₀ out₀)))
 
 abbrev μ-loop : tie.MeasureT-loop
-μ-loop list₀ waiting made₀ arrivals count node place ratio loggers out₀ n l₀ f₀ i₀ list made out l f i = n - i
+μ-loop list₀ waiting made₀ arrivals count node place ratio ticks loggers out₀ n l₀ f₀ i₀ list made out l f i = n - i
 
 up-to-requires : tie.Need-up-to-requires Inv-loop μ-loop
 up-to-requires c κs = search needs
 
 loop-holds : tie.Need-loop-holds Inv-loop μ-loop
-loop-holds c = (search needs, refl, beyond-none (c .before .before .before .pre .0) (c .before .before .before .pre .1), refl)
+loop-holds c = (search needs, refl, beyond-none (c .before .before .before .pre .1) (c .before .before .before .pre .2), refl)
 
 mul-before-arrival : tie.Need-mul-before-arrival Inv-loop μ-loop
 mul-before-arrival c = search needs
@@ -44,7 +44,7 @@ index-1-meet : tie.Need-index-1-meet Inv-loop μ-loop
 index-1-meet c = search needs
 
 meet-requires : tie.Need-meet-requires Inv-loop μ-loop
-meet-requires c κs = let a = c .before .before .before .before .before .before .before .before in (a .loop .inv .2 .within, a .loop .inv .2 .few)
+meet-requires c κs = let a = c .before .before .before .before .before .before .before .before in (a .before .before .before .before .pre .0, a .loop .inv .2 .within, a .loop .inv .2 .few)
 
 add-i : tie.Need-add-i Inv-loop μ-loop
 add-i c = search needs
@@ -60,9 +60,9 @@ loop-again c =
     let call = c .before .before .before .meet in
     let same = rw (a .loop .inv .1) at (call .ensures .0) in (
       omega (arith, within),
-      call .kept .1 .1 .1 .1 .1 .1 .1 .1 .1 .1 .0 ∙ a .loop .inv .1,
+      call .kept .1 .1 .1 .1 .1 .1 .1 .1 .1 .1 .1 .0 ∙ a .loop .inv .1,
       beyond-then (a .loop .inv .2) (call .ensures .1),
-      arrival-turn _ (now (start .args .arrivals)) (start .args .count) _ (a .loop .i) (a .before .up-to .ensures) _ _ within (met-step _ _ _ _ _ _ _ (c .before .before .before .before .before .before .before .before .before-arrival .ensures) same) ∙ a .loop .inv .3,
+      arrival-turn _ (now (start .args .ticks)) (now (start .args .arrivals)) (start .args .count) _ (a .loop .i) (a .before .up-to .ensures) _ _ within (met-step _ _ _ _ _ _ _ (c .before .before .before .before .before .before .before .before .before-arrival .ensures) same) ∙ a .loop .inv .3,
     )
 
 same-length : tie.Need-same-length Inv-loop μ-loop
@@ -72,7 +72,7 @@ returns : tie.Need-returns Inv-loop μ-loop
 returns c =
     let a = c .before in
     let start = a .before .before .before .before in
-    (sym (arrival-end _ (now (start .args .arrivals)) (start .args .count) _ (a .loop .i) (a .before .up-to .ensures) _ (c .loop-test .left)) ∙ a .loop .inv .3, a .loop .inv .2)
+    (sym (arrival-end _ (now (start .args .ticks)) (now (start .args .arrivals)) (start .args .count) _ (a .loop .i) (a .before .up-to .ensures) _ (c .loop-test .left)) ∙ a .loop .inv .3, a .loop .inv .2)
 
 pub meet-all-spec : {M : Type 1} → statement M
 meet-all-spec =

@@ -1,6 +1,6 @@
 -- By the operator.
 use mathlib.Core.List.{[]}
-use mathlib.Core.Path.{_≡_, ap, _∙_}
+use mathlib.Core.Path.{ap, _∙_}
 use denote.Ref.{now}
 use native.Mathlib.Omega.{arith}
 use Rattle.emissions.specs.Emissions.{Emitting}
@@ -26,17 +26,20 @@ shared-slice-element-or-turn-2 : tie.Need-shared-slice-element-or-turn-2
 shared-slice-element-or-turn-2 c = search needs
 
 or-turn-requires : tie.Need-or-turn-requires
-or-turn-requires c κs = search needs
+or-turn-requires c κs =
+    let fresh = c .before .before .before .before .before .before .fresh .ensures in
+    let start = c .before .before .before .before .before .before .before .before in
+    (omega (arith, fresh .1, start .pre .1), omega (arith, fresh .1, fresh .2, start .pre .2))
 
 same-length : tie.Need-same-length
-same-length c = search needs
+same-length c = c .before .before .or-turn .kept .1 .1 .1 .1 .1 .1 .1 .1 .1 .0
 
 returns : tie.Need-returns
 returns c =
     let told = c .before .before .before .before .before .before .before .before .before in
     let fresh = told .fresh .ensures in
     let call = c .before .before .or-turn .ensures in
-    (or-turn-is _ _ _ _ _ _ _ _ _ (c .before .before .before .before .before .before .before .if1 .taken) _ (call .0 ∙ ap (orTurn _ _ _ _ _) (fresh .0 (now (told .before .before .args .made)) _)), rw (fresh .1) at (call .1))
+    (or-turn-is _ _ _ _ _ _ _ _ _ (c .before .before .before .before .before .before .before .if1 .taken) _ (call .0 ∙ ap (orTurn _ _ _ _ _) (fresh .0 _ (now (told .before .before .args .made)) _)), rw (fresh .1) at (call .1))
 
 mul-and-turn : tie.Need-mul-and-turn
 mul-and-turn c = search needs
@@ -51,17 +54,20 @@ shared-slice-element-and-turn-2 : tie.Need-shared-slice-element-and-turn-2
 shared-slice-element-and-turn-2 c = search needs
 
 and-turn-requires : tie.Need-and-turn-requires
-and-turn-requires c κs = search needs
+and-turn-requires c κs =
+    let fresh = c .before .before .before .before .before .before .before .before .before .before .fresh .ensures in
+    let start = c .before .before .before .before .before .before .before .before .before .before .before .before in
+    (start .pre .0, omega (arith, fresh .1, start .pre .1), omega (arith, fresh .1, fresh .2, start .pre .2))
 
 same-length-2 : tie.Need-same-length-2
-same-length-2 c = search needs
+same-length-2 c = c .before .before .and-turn .kept .1 .1 .1 .1 .1 .1 .1 .1 .1 .1 .1 .1 .1 .1 .1 .0
 
 returns-2 : tie.Need-returns-2
 returns-2 c =
     let told = c .before .before .before .before .before .before .before .before .before .before .before .before .before in
     let fresh = told .fresh .ensures in
     let call = c .before .before .and-turn .ensures in
-    (and-turn-is _ _ _ _ _ _ _ _ _ (c .before .before .before .before .before .before .before .before .before .before .before .if1 .left) (c .before .before .before .before .before .before .before .before .before .if2 .taken) _ (call .0 ∙ ap (andTurn _ _ _ _ _ _ _) (fresh .0 (now (told .before .before .args .made)) _)), rw (fresh .1) at (call .1))
+    (and-turn-is _ _ _ _ _ _ _ _ _ (c .before .before .before .before .before .before .before .before .before .before .before .if1 .left) (c .before .before .before .before .before .before .before .before .before .if2 .taken) _ (call .0 ∙ ap (andTurn _ _ _ _ _ _ _) (fresh .0 _ (now (told .before .before .args .made)) _)), rw (fresh .1) at (call .1))
 
 mul-seq-turn : tie.Need-mul-seq-turn
 mul-seq-turn c = search needs
@@ -79,17 +85,17 @@ seq-turn-requires : tie.Need-seq-turn-requires
 seq-turn-requires c κs =
     let fresh = c .before .before .before .before .before .before .before .before .before .fresh .ensures in
     let start = c .before .before .before .before .before .before .before .before .before .before .before in
-    (omega (arith, fresh .1, start .pre .0), omega (arith, fresh .1, fresh .2, start .pre .1), ap (λ (e : Emitting). e .limit) (fresh .0 [] []) ∙ number-none)
+    (start .pre .0, omega (arith, fresh .1, start .pre .1), omega (arith, fresh .1, fresh .2, start .pre .2), ap (λ (e : Emitting). e .limit) (fresh .0 [] [] []) ∙ number-none)
 
 same-length-3 : tie.Need-same-length-3
-same-length-3 c = search needs
+same-length-3 c = c .before .before .before .seq-turn .kept .1 .1 .1 .1 .1 .1 .1 .1 .1 .1 .1 .1 .1 .0
 
 returns-3 : tie.Need-returns-3
 returns-3 c =
     let told = c .before .before .before .before .before .before .before .before .before .before .before .before .before in
     let fresh = told .fresh .ensures in
     let call = c .before .before .before .seq-turn .ensures in
-    (seq-turn-is _ _ _ _ _ _ _ _ _ (c .before .before .before .before .before .before .before .before .before .before .before .if1 .left) (c .before .before .before .before .before .before .before .before .before .if2 .left) _ (call .0 ∙ ap (seqTurn _ _ _ _ _ _) (fresh .0 (now (told .before .before .args .made)) _)), rw (fresh .1) at (call .1))
+    (seq-turn-is _ _ _ _ _ _ _ _ _ (c .before .before .before .before .before .before .before .before .before .before .before .if1 .left) (c .before .before .before .before .before .before .before .before .before .if2 .left) _ (call .0 ∙ ap (seqTurn _ _ _ _ _ _) (fresh .0 _ (now (told .before .before .args .made)) _)), rw (fresh .1) at (call .1))
 
 pub node-turn-spec : {M : Type 1} → statement M
 node-turn-spec =

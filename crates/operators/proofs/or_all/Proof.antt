@@ -15,10 +15,10 @@ use Rattle.operators.proofs.or_all.Statement.{statement}
 use Rattle.operators.proofs.or_all.Tie as tie
 
 abbrev Inv-loop : tie.InvT-loop
-Inv-loop made₀ arrivals count place loggers out₀ n f₀ i₀ made out f i = (i ≤ n) × (length out ≡ length out₀) × Beyond out₀ out (f₀ .at) (f .findings) (f .at) × (fold (emitted (length out₀) loggers place) (drop i (held arrivals count)) (emitOf f made out) ≡ emittedAll (length out₀) loggers place (emitOf f₀ made₀ out₀) (held arrivals count))
+Inv-loop made₀ arrivals count place ticks loggers out₀ n f₀ i₀ made out f i = (i ≤ n) × (length out ≡ length out₀) × Beyond out₀ out (f₀ .at) (f .findings) (f .at) × (fold (emitted (length out₀) loggers place) (drop i (held ticks arrivals count)) (emitOf ticks f made out) ≡ emittedAll (length out₀) loggers place (emitOf ticks f₀ made₀ out₀) (held ticks arrivals count))
 
 abbrev μ-loop : tie.MeasureT-loop
-μ-loop made₀ arrivals count place loggers out₀ n f₀ i₀ made out f i = n - i
+μ-loop made₀ arrivals count place ticks loggers out₀ n f₀ i₀ made out f i = n - i
 
 up-to-requires : tie.Need-up-to-requires Inv-loop μ-loop
 up-to-requires c κs = search needs
@@ -50,9 +50,9 @@ loop-again c =
     let call = c .before .before .emit-one in
     let same = rw (a .loop .inv .1) at (call .ensures .0) in (
       omega (arith, within),
-      call .kept .1 .1 .1 .1 .1 .0 ∙ a .loop .inv .1,
+      call .kept .1 .1 .1 .1 .1 .1 .0 ∙ a .loop .inv .1,
       beyond-then (a .loop .inv .2) (call .ensures .1),
-      arrival-turn _ (now (start .args .arrivals)) (start .args .count) _ (a .loop .i) (a .before .up-to .ensures) _ _ within same ∙ a .loop .inv .3,
+      arrival-turn _ (now (start .args .ticks)) (now (start .args .arrivals)) (start .args .count) _ (a .loop .i) (a .before .up-to .ensures) _ _ within same ∙ a .loop .inv .3,
     )
 
 same-length : tie.Need-same-length Inv-loop μ-loop
@@ -62,7 +62,7 @@ returns : tie.Need-returns Inv-loop μ-loop
 returns c =
     let a = c .before in
     let start = a .before .before .before .before in
-    (sym (arrival-end _ (now (start .args .arrivals)) (start .args .count) _ (a .loop .i) (a .before .up-to .ensures) _ (c .loop-test .left)) ∙ a .loop .inv .3, a .loop .inv .2)
+    (sym (arrival-end _ (now (start .args .ticks)) (now (start .args .arrivals)) (start .args .count) _ (a .loop .i) (a .before .up-to .ensures) _ (c .loop-test .left)) ∙ a .loop .inv .3, a .loop .inv .2)
 
 pub or-all-spec : {M : Type 1} → statement M
 or-all-spec =

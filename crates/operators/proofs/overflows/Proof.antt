@@ -21,8 +21,8 @@ returns : tie.Need-returns
 returns c =
     let start = c .before .before .before .before in
     let whole : length (now (start .args .list)) ≡ 16 = search needs in
-    let waiting = length-held (now (start .args .list)) (start .args .waiting) in
-    (rw (waiting, length-held (now (start .args .arrivals)) (start .args .count), ← c .before .before .up-to .ensures, ← c .up-to2 .ensures), omega (arith, waiting, whole))
+    λ ticks. let waiting = length-held ticks (now (start .args .list)) (start .args .waiting) in
+    (rw (waiting, length-held ticks (now (start .args .arrivals)) (start .args .count), ← c .before .before .up-to .ensures, ← c .up-to2 .ensures), omega (arith, waiting, whole))
 
 pub overflows-spec : {M : Type 1} → statement M
 overflows-spec = tie.close (tie.spec up-to-requires up-to-requires-2 add-result returns)

@@ -50,22 +50,22 @@ use denote.Triple.Spec.{Meets, tripleOf}
 use denote.Triple.Table.{entered, cited}
 use denote.Triple.Walked.{says, needs, Stays, stay-ref, stay-none-ref, stay-none-slice, stay-dropped, walkOf, goes-ref, goes-none-ref, goes-none-slice, goes-dropped, Walks, ends-at, walked, walk-meets}
 use denote.Exit.{yes}
-use Rattle.open_calls.specs.Answers.{compareAnswer}
+use Rattle.comparisons.specs.Answers.{compareAnswer}
 use Rattle.timestamps.specs.declared.Timestamp.{Timestamp}
 use Rattle.timestamps.proofs.Timestamp as RTimestamp
 use Rattle.timestamps.proofs.Timestamp.Laws as LTimestamp
-use Rattle.open_calls.specs.declared.Comparison.{Comparison}
-use Rattle.open_calls.proofs.Comparison as RComparison
-use Rattle.open_calls.proofs.Comparison.Laws as LComparison
+use Rattle.comparisons.specs.declared.Comparison.{Comparison}
+use Rattle.comparisons.proofs.Comparison as RComparison
+use Rattle.comparisons.proofs.Comparison.Laws as LComparison
 use Rattle.rathunxa.proofs.rathunxa_compare.Key.{name as #self}
 use Rattle.rathunxa.proofs.rathunxa_compare as self
 use Rattle.rathunxa.proofs.rathunxa_compare.Statement as stated
 use Rattle.rathunxa.proofs.rathunxa_compare.Code as code
 use Rattle.rathunxa.proofs.rathunxa_compare.Code.Mir as parts
-use Rattle.open_calls.proofs.compare as c1
-use Rattle.open_calls.proofs.compare.Symbol as c1-def
-use Rattle.open_calls.proofs.compare.Symbol.{name as #c1}
-use Rattle.open_calls.proofs.compare.Met as c1-thm
+use Rattle.comparisons.proofs.compare as c1
+use Rattle.comparisons.proofs.compare.Symbol as c1-def
+use Rattle.comparisons.proofs.compare.Symbol.{name as #c1}
+use Rattle.comparisons.proofs.compare.Met as c1-thm
 
 abbrev stayed : Stays (self.ended .signature .params) (self.ended .kept)
 stayed = (stay-dropped (plain (λ _. u64)) yes, (stay-dropped (shrSliceOf (0 ∷ []) tt (plain (λ _. RTimestamp.the-row))) yes, (stay-dropped (shrSliceOf (1 ∷ []) tt (plain (λ _. RTimestamp.the-row))) yes, tt)))
@@ -83,7 +83,7 @@ spelled = record {
 spelled-is : spelled ≡ code.function
 spelled-is = refl
 
--- the contract of `open_calls::compare`
+-- the contract of `comparisons::compare`
 abbrev Of-c1 : {M : Type 1} (𝓤 : URA M) (H : Heap 𝓤) (A : Atoms 𝓤) (at-mem : Memory → SProp 𝓤) (run : Routine → Fun 𝓤) → Contract 𝓤
 Of-c1 𝓤 H A at-mem run = tripleOf 𝓤 H A c1.signature (c1.spec 𝓤 H A at-mem run)
 
@@ -160,4 +160,4 @@ rathunxa-compare-spec 𝓤 H 𝓜 𝓖 𝓡 =
     entered 𝓤 H (tripleOf 𝓤 H (𝓖 .A) self.signature (self.spec 𝓤 H (𝓖 .A) (𝓜 .mem) (𝓡 .run)))
     (tables 𝓤 H 𝓜 𝓡 code.env .C) (tables 𝓤 H 𝓜 𝓡 code.env .Λ) #self code.function (code.unfolded 𝓤 H 𝓜 𝓡)
     (self-meets 𝓤 H (𝓖 .A) (givenOf 𝓤 H 𝓜 𝓖) (𝓜 .mem) (𝓡 .run) (tablesOf 𝓤 H 𝓜 (tables 𝓤 H 𝓜 𝓡 code.env))
-    (cited 𝓤 H (Of-c1 𝓤 H (𝓖 .A) (𝓜 .mem) (𝓡 .run)) 𝓜 𝓡 code.env #c1 c1-def.routine code.calls-open-calls·compare (c1-thm.met 𝓤 H 𝓜 𝓖 𝓡)))
+    (cited 𝓤 H (Of-c1 𝓤 H (𝓖 .A) (𝓜 .mem) (𝓡 .run)) 𝓜 𝓡 code.env #c1 c1-def.routine code.calls-comparisons·compare (c1-thm.met 𝓤 H 𝓜 𝓖 𝓡)))

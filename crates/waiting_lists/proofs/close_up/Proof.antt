@@ -1,22 +1,24 @@
 -- In place: the first k places hold those of the first i that stay, and from i on nothing has moved.
-use mathlib.Core.Path.{_≡_, refl}
-use mathlib.Core.List.{map}
-use Prim.Native.Nat.{min, _-_, _≤_}
+use mathlib.Core.Path.{_≡_, sym, _∙_}
+use mathlib.Core.List.{List, map}
+use Prim.Native.Nat.{ℕ, min, _-_, _≤_}
 use native.Mathlib.Omega.{arith}
 use borrow.Author.Needs.{needs}
 use borrow.Author.Tests.{not-true, not-false}
-use lib.ListN.{length, length-map}
+use lib.ListN.{length}
 use Rattle.sequences.specs.Marks.{firstMark}
 use Rattle.occurrences.specs.Packed.{held, occurrenceOf}
+use Rattle.waiting_lists.specs.Marks.{marksOf}
+use Rattle.waiting_lists.proofs.Marks.{length-marks}
 use Rattle.waiting_lists.proofs.Removals.{Closing, closing-start, closing-end, row-gone, row-kept}
 use Rattle.waiting_lists.proofs.close_up.Statement.{statement}
 use Rattle.waiting_lists.proofs.close_up.Tie as tie
 
 abbrev Inv-loop : tie.InvT-loop
-Inv-loop list₀ waiting gone first n start k₀ i₀ list k i = (i ≤ n) × (n ≤ 16) × (k ≤ i) × (length list ≡ 16) × Closing (map occurrenceOf list₀) waiting gone (map occurrenceOf list) k i
+Inv-loop row₀ waiting gone first n start k₀ i₀ row k i = (i ≤ n) × (n ≤ 16) × (k ≤ i) × (length row ≡ 16) × ((ticks : List ℕ) → Closing (map (occurrenceOf ticks) row₀) waiting (marksOf gone) (map (occurrenceOf ticks) row) k i)
 
 abbrev μ-loop : tie.MeasureT-loop
-μ-loop list₀ waiting gone first n start k₀ i₀ list k i = n - i
+μ-loop row₀ waiting gone first n start k₀ i₀ row k i = n - i
 
 first-marked-requires : tie.Need-first-marked-requires Inv-loop μ-loop
 first-marked-requires c κs = search needs
@@ -31,16 +33,16 @@ loop-holds : tie.Need-loop-holds Inv-loop μ-loop
 loop-holds c =
     let e = c .before in
     let a = e .before .before .before .args in
-    let n : e .count-in .result ≡ length (held (a .row .now) (a .waiting)) = e .count-in .ensures .0 in
-    let f : e .before .before .first-marked .result ≡ firstMark (a .t3) = e .before .before .first-marked .ensures in
+    let n : (ticks : List ℕ) → e .count-in .result ≡ length (held ticks (a .row .now) (a .waiting)) = e .count-in .ensures .0 in
+    let f : e .before .before .first-marked .result ≡ firstMark (marksOf (a .gone)) = e .before .before .first-marked .ensures in
     let s : c .earlier .result ≡ min (e .before .before .first-marked .result) (e .count-in .result) = c .earlier .ensures in
-    (omega arith, search needs, search needs, search needs, closing-start (map occurrenceOf (a .row .now)) (a .waiting) (a .t3) _ (omega arith))
+    (omega arith, search needs, search needs, search needs, (λ ticks. closing-start (map (occurrenceOf ticks) (a .row .now)) (a .waiting) (marksOf (a .gone)) _ (omega (arith, n ticks))))
 
 add-next : tie.Need-add-next Inv-loop μ-loop
 add-next c = search needs
 
-array-read-if1 : tie.Need-array-read-if1 Inv-loop μ-loop
-array-read-if1 c = search needs
+is-marked-requires : tie.Need-is-marked-requires Inv-loop μ-loop
+is-marked-requires c κs = search needs
 
 mul-o : tie.Need-mul-o Inv-loop μ-loop
 mul-o c = search needs
@@ -62,16 +64,17 @@ loop-less c = search needs
 
 loop-again : tie.Need-loop-again Inv-loop μ-loop
 loop-again c =
-    let b = c .before .before .before in
+    let m = c .before .before in
+    let b = m .before .before in
     let e = b .before .before in
     let a = e .before .before .before .args in
-    let n : e .count-in .result ≡ length (held (a .row .now) (a .waiting)) = e .count-in .ensures .0 in (
+    let n : (ticks : List ℕ) → e .count-in .result ≡ length (held ticks (a .row .now) (a .waiting)) = e .count-in .ensures .0 in (
       search needs,
       search needs,
       search needs,
       search needs,
-      row-kept (a .row .now) (b .loop .row) (a .waiting) (a .t3) (b .loop .k) (b .loop .i) (b .loop .inv .4)
-          (omega arith) (search needs) (search needs) (search needs) (not-true _ (c .before .if1 .taken)),
+      (λ ticks. row-kept ticks (a .row .now) (b .loop .row) (a .waiting) (marksOf (a .gone)) (b .loop .k) (b .loop .i) (b .loop .inv .4 ticks)
+          (omega (arith, n ticks)) (omega (arith, length-marks (a .gone), b .loop .inv .1)) (search needs) (search needs) (sym (m .is-marked .ensures) ∙ not-true _ (c .before .if1 .taken))),
     )
 
 loop-less-2 : tie.Need-loop-less-2 Inv-loop μ-loop
@@ -79,25 +82,26 @@ loop-less-2 c = search needs
 
 loop-again-2 : tie.Need-loop-again-2 Inv-loop μ-loop
 loop-again-2 c =
-    let b = c .before .before in
+    let m = c .before in
+    let b = m .before .before in
     let e = b .before .before in
     let a = e .before .before .before .args in
-    let n : e .count-in .result ≡ length (held (a .row .now) (a .waiting)) = e .count-in .ensures .0 in (
+    let n : (ticks : List ℕ) → e .count-in .result ≡ length (held ticks (a .row .now) (a .waiting)) = e .count-in .ensures .0 in (
       search needs,
       search needs,
       search needs,
       search needs,
-      row-gone (a .row .now) (b .loop .row) (a .waiting) (a .t3) (b .loop .k) (b .loop .i) (b .loop .inv .4)
-          (omega arith) (search needs) (not-false _ (c .if1 .left)),
+      (λ ticks. row-gone ticks (a .row .now) (b .loop .row) (a .waiting) (marksOf (a .gone)) (b .loop .k) (b .loop .i) (b .loop .inv .4 ticks)
+          (omega (arith, n ticks)) (omega (arith, length-marks (a .gone), b .loop .inv .1)) (sym (m .is-marked .ensures) ∙ not-false _ (c .if1 .left))),
     )
 
 returns : tie.Need-returns Inv-loop μ-loop
-returns c =
+returns c ticks =
     let b = c .before in
     let e = b .before .before in
     let a = e .before .before .before .args in
-    let n : e .count-in .result ≡ length (held (a .row .now) (a .waiting)) = e .count-in .ensures .0 in
-    closing-end (map occurrenceOf (a .row .now)) (a .waiting) (a .t3) (map occurrenceOf (b .loop .row)) (b .loop .k) (b .loop .i) (b .loop .inv .4) (omega arith)
+    let n : (ticks : List ℕ) → e .count-in .result ≡ length (held ticks (a .row .now) (a .waiting)) = e .count-in .ensures .0 in
+    closing-end (map (occurrenceOf ticks) (a .row .now)) (a .waiting) (marksOf (a .gone)) (map (occurrenceOf ticks) (b .loop .row)) (b .loop .k) (b .loop .i) (b .loop .inv .4 ticks) (omega (arith, n ticks))
 
 pub close-up-spec : {M : Type 1} → statement M
 close-up-spec =
@@ -110,7 +114,7 @@ close-up-spec =
     earlier-requires
     loop-holds
     add-next
-    array-read-if1
+    is-marked-requires
     mul-o
     element-copy-out-o
     mul-o-2

@@ -50,13 +50,11 @@ use denote.Triple.Spec.{Meets, tripleOf}
 use denote.Triple.Table.{entered, cited}
 use denote.Triple.Walked.{says, needs, Stays, stay-ref, stay-none-ref, stay-none-slice, stay-dropped, walkOf, goes-ref, goes-none-ref, goes-none-slice, goes-dropped, Walks, ends-at, walked, walk-meets}
 use denote.Exit.{yes}
+use Rattle.waiting_lists.specs.Marks.{marksOf}
 use Rattle.waiting_lists.specs.Steps.{fewer}
 use Rattle.waiting_lists.specs.declared.WaitingList.{WaitingList}
 use Rattle.waiting_lists.proofs.WaitingList as RWaitingList
 use Rattle.waiting_lists.proofs.WaitingList.Laws as LWaitingList
-use mir.Syntax.{tyArray}
-use denote.Array.{Array, array-vals, array-tells, array-lawful, array-makes}
-use denote.Signature.Array.{arrayOf}
 use Rattle.waiting_lists.proofs.kept as callee
 use Rattle.waiting_lists.proofs.kept.Symbol as callee-def
 use Rattle.waiting_lists.proofs.kept.Symbol.{name as #callee}
@@ -74,7 +72,7 @@ abbrev ref : Ty
 ref = tyRef (named 0) mut (pointee (R .written))
 
 abbrev stayed : Stays (self.ended .signature .params) (self.ended .kept)
-stayed = (stay-ref (0 ∷ []) tt (plain (λ _. R)), (stay-dropped (arrayOf (plain (λ _. bool)) 16) yes, tt))
+stayed = (stay-ref (0 ∷ []) tt (plain (λ _. R)), (stay-dropped (plain (λ _. u64)) yes, tt))
 
 -- the function with its locals' types as this file writes them: over `code.function` itself the kernel may stop at its step limit
 abbrev spelled : Fn
@@ -82,7 +80,7 @@ spelled = record {
   lifetimes = 1;
   outlives = [];
   params = 2;
-  locals = local tyUnit valueLocal ∷ local ref valueLocal ∷ local (tyArray tyBool 16) valueLocal ∷ local LWaitingList.mir valueLocal ∷ local LWaitingList.mir valueLocal ∷ [];
+  locals = local tyUnit valueLocal ∷ local ref valueLocal ∷ local (tyInt w64) valueLocal ∷ local LWaitingList.mir valueLocal ∷ local LWaitingList.mir valueLocal ∷ [];
   body = parts.t-1;
 }
 
@@ -93,15 +91,15 @@ spelled-is = refl
 abbrev Callee : {M : Type 1} (𝓤 : URA M) (H : Heap 𝓤) (A : Atoms 𝓤) (at-mem : Memory → SProp 𝓤) (run : Routine → Fun 𝓤) → Contract 𝓤
 Callee 𝓤 H A at-mem run = tripleOf 𝓤 H A callee.signature (callee.spec 𝓤 H A at-mem run)
 
-module _ {M : Type 1} (𝓤 : URA M) (H : Heap 𝓤) (A : Atoms 𝓤) (W : Given 𝓤 H A) (at-mem : Memory → SProp 𝓤) (run : Routine → Fun 𝓤) (κ : Lft) (q : Share) (b o : ℕ) (γ : GName) (h : WaitingList) (p1 : (List Bool)) (gp1 : Is (Array bool 16) p1 ((only (array-vals bool-vals p1)) ∷ [])) where
+module _ {M : Type 1} (𝓤 : URA M) (H : Heap 𝓤) (A : Atoms 𝓤) (W : Given 𝓤 H A) (at-mem : Memory → SProp 𝓤) (run : Routine → Fun 𝓤) (κ : Lft) (q : Share) (b o : ℕ) (γ : GName) (h : WaitingList) (p1 : ℕ) (gp1 : Is u64 p1 ((vint w64 p1) ∷ [])) where
   abbrev Arg : Type 0
-  Arg = RefT WaitingList × ((List Bool) × Unit {0})
+  Arg = RefT WaitingList × (ℕ × Unit {0})
 
   abbrev x : Arg
   x = (record { ptr = (b, o); name = γ; now = h }, (p1, tt))
 
   abbrev at : List Val × (List Val × (Unit {0}))
-  at = (vptr b o ∷ [], ((only (array-vals bool-vals p1)) ∷ [], tt))
+  at = (vptr b o ∷ [], ((vint w64 p1) ∷ [], tt))
 
   abbrev Post : Val → SProp 𝓤
   Post = walkOf 𝓤 H A self.ended stayed (self.clauses 𝓤 H A at-mem run) .post (((κ, tt), (q, tt), tt, x, at), tt)
@@ -111,16 +109,16 @@ module _ {M : Type 1} (𝓤 : URA M) (H : Heap 𝓤) (A : Atoms 𝓤) (W : Given
 
   -- ---- the call
   abbrev to : Callee 𝓤 H A at-mem run .Ghost
-  to = ((tt, tt, tt, (h, (p1, tt)), ((LL.val RWaitingList.the-type LWaitingList.the-laws h) ∷ [], ((only (array-vals bool-vals p1)) ∷ [], tt))), tt)
+  to = ((tt, tt, tt, (h, (p1, tt)), ((LL.val RWaitingList.the-type LWaitingList.the-laws h) ∷ [], ((vint w64 p1) ∷ [], tt))), tt)
 
   goes-to : Is R h ((LL.val RWaitingList.the-type LWaitingList.the-laws h) ∷ []) → ent 𝓤 (⋆ 𝓤 H A ([])) (Callee 𝓤 H A at-mem run .pre to)
   goes-to g =
-      qed W ([]) ∵ nothing ! $ nothing ! $ owned ! (Array bool 16) (Is (Array bool 16)) (array-makes 𝓤 H A W bool (bool-makes 𝓤 H A W) 16) p1 ((only (array-vals bool-vals p1)) ∷ []) gp1 $ fjoin ! $ owned ! R (Is R) (LL.makes RWaitingList.the-type LWaitingList.the-plain 𝓤 H A) h ((LL.val RWaitingList.the-type LWaitingList.the-laws h) ∷ []) g $ fjoin ! $ move ! (1 ∷ 0 ∷ []) $ join ! $ frame ! $ done !
+      qed W ([]) ∵ nothing ! $ nothing ! $ owned ! u64 (Is u64) (uint-makes 𝓤 H A W w64) p1 ((vint w64 p1) ∷ []) gp1 $ fjoin ! $ owned ! R (Is R) (LL.makes RWaitingList.the-type LWaitingList.the-plain 𝓤 H A) h ((LL.val RWaitingList.the-type LWaitingList.the-laws h) ∷ []) g $ fjoin ! $ move ! (1 ∷ 0 ∷ []) $ join ! $ frame ! $ done !
 
-  said : (r : WaitingList) → ent 𝓤 (ensured 𝓤 H A callee.ended (callee.clauses 𝓤 H A at-mem run) tt (h, (p1, tt)) tt r) (fact 𝓤 (r ≡ fewer h p1))
-  said r = exE 𝓤 _ (λ ws. snd∗ 𝓤 (sem 𝓤 H A (lasts callee.ended tt (h, (p1, tt)) ws)) (fact 𝓤 (r ≡ fewer h p1)))
+  said : (r : WaitingList) → ent 𝓤 (ensured 𝓤 H A callee.ended (callee.clauses 𝓤 H A at-mem run) tt (h, (p1, tt)) tt r) (fact 𝓤 (r ≡ fewer h (marksOf p1)))
+  said r = exE 𝓤 _ (λ ws. snd∗ 𝓤 (sem 𝓤 H A (lasts callee.ended tt (h, (p1, tt)) ws)) (fact 𝓤 (r ≡ fewer h (marksOf p1))))
 
-  exits : (r : WaitingList) → r ≡ fewer h p1 → ent 𝓤 (⋆ 𝓤 H A (‵ (fobs γ (R .coded .code r)) ∷ ‵ (fbor κ (Body (mem R) b o γ)) ∷ ‵ (flft κ q) ∷ [])) (Post vunit)
+  exits : (r : WaitingList) → r ≡ fewer h (marksOf p1) → ent 𝓤 (⋆ 𝓤 H A (‵ (fobs γ (R .coded .code r)) ∷ ‵ (fbor κ (Body (mem R) b o γ)) ∷ ‵ (flft κ q) ∷ [])) (Post vunit)
   exits r e =
       qed W (‵ (fobs γ (R .coded .code r)) ∷ ‵ (fbor κ (Body (mem R) b o γ)) ∷ ‵ (flft κ q) ∷ []) ∵
       suffices ! _ (ends-at 𝓤 H A self.ended stayed (self.clauses 𝓤 H A at-mem run) W (((κ, tt), (q, tt), tt, x, at), tt) vunit tt (r, (tt, tt)) (tt, (tt, tt))) $ says ! e $
@@ -128,17 +126,17 @@ module _ {M : Type 1} (𝓤 : URA M) (H : Heap 𝓤) (A : Atoms 𝓤) (W : Given
       feqI ! (List Val) (vunit ∷ []) (vunit ∷ []) refl $ move ! (1 ∷ 0 ∷ []) $ done !
 
   module _ (C : Calls 𝓤 H) (Λ : Loops 𝓤 H) (fm : FmC 𝓤 H (W .laws) C) (known : Triple 𝓤 (C #callee) (Callee 𝓤 H A at-mem run)) where
-    walk : ent 𝓤 (onEntry 𝓤 H A self.signature (κ, tt) (q, tt) x at) (WpFn 𝓤 H C Λ spelled (vptr b o ∷ (only (array-vals bool-vals p1)) ∷ []) Post)
+    walk : ent 𝓤 (onEntry 𝓤 H A self.signature (κ, tt) (q, tt) x at) (WpFn 𝓤 H C Λ spelled (vptr b o ∷ (vint w64 p1) ∷ []) Post)
     walk =
-        qed W ((‵ (flft κ q) ⊛ ‵ ftrue) ∷ ‵ (owns (MutRef (named 0) κ R ∷ (Array bool 16) ∷ []) x at) ∷ []) ∵ enter ! C Λ spelled (vptr b o ∷ (only (array-vals bool-vals p1)) ∷ []) _ $
-        alloc1 ! (λ l0. alloc1 ! (λ l1. alloc1 ! (λ l2. alloc1 ! (λ l3. alloc1 ! (λ l4. alloc0 ! $ params1 ! $ pass1 ! (init ! 6 refl (tt, tt)) $ pass1 ! (init ! 4 refl (array-lawful 𝓤 H A W bool (bool-lawful 𝓤 H A W) 16 .typed p1 _ gp1 .0)) $ pass0 ! $
+        qed W ((‵ (flft κ q) ⊛ ‵ ftrue) ∷ ‵ (owns (MutRef (named 0) κ R ∷ u64 ∷ []) x at) ∷ []) ∵ enter ! C Λ spelled (vptr b o ∷ (vint w64 p1) ∷ []) _ $
+        alloc1 ! (λ l0. alloc1 ! (λ l1. alloc1 ! (λ l2. alloc1 ! (λ l3. alloc1 ! (λ l4. alloc0 ! $ params1 ! $ pass1 ! (init ! 6 refl (tt, tt)) $ pass1 ! (init ! 4 refl (uint-lawful 𝓤 H A W w64 .typed p1 _ gp1 .0)) $ pass0 ! $
         move ! (11 ∷ []) $ fsplit ! $ fsplit3 ! $ drop ! $ move ! (13 ∷ []) $ split ! $ move ! (2 ∷ 3 ∷ 0 ∷ []) $
         opens ! tt R {h = h} b o (λ vs. spelt ! R (Is R) (shows 𝓤 H A R) (LL.vals RWaitingList.the-type LWaitingList.the-laws) (LL.tells RWaitingList.the-type LWaitingList.the-laws) fullShare h vs b o $ move ! (1 ∷ []) $ peeks ! R (Is R) (shows 𝓤 H A R) h ((LL.val RWaitingList.the-type LWaitingList.the-laws h) ∷ []) (λ was. move ! (1 ∷ 0 ∷ []) $
         assigns ! (of-opd ! (load ! (from ! (hop ! (look ! 13 refl) (stop !))) (look-raw ! 0 refl))) (from ! (stop !)) (init ! 7 refl (typedS h was)) $
         use0 W (raw (Callee 𝓤 H A at-mem run .pre to)) (goes-to was) $
         calls-at ! fm (Callee 𝓤 H A at-mem run) known to (and-then ! (load ! (from ! (stop !)) (look ! 8 refl)) (and-then ! (load ! (from ! (stop !)) (look ! 12 refl)) (no-more !))) (λ w.
         use1 W (later (some (λ (r : WaitingList). ((‵ ftrue) ⊛ ‵ (RWaitingList.the-row .own r (w ∷ []))) ⊛ raw (ensured 𝓤 H A callee.ended (callee.clauses 𝓤 H A at-mem run) tt (h, (p1, tt)) tt r)))) (id⊢ 𝓤 _) $ await ! tt $ pick ! (λ r.
-        split ! $ move ! (1 ∷ []) $ use1 W (raw (fact 𝓤 (r ≡ fewer h p1))) (said r) $ heard ! (r ≡ fewer h p1) (λ e. split ! $ drop ! $
+        split ! $ move ! (1 ∷ []) $ use1 W (raw (fact 𝓤 (r ≡ fewer h (marksOf p1)))) (said r) $ heard ! (r ≡ fewer h (marksOf p1)) (λ e. split ! $ drop ! $
         peeks ! RWaitingList.the-row (Is RWaitingList.the-row) (shows 𝓤 H A RWaitingList.the-row) r (w ∷ []) (λ is.
         land ! (from ! (stop !)) (init ! 10 refl (LL.lawful RWaitingList.the-type LWaitingList.the-laws 𝓤 H A W .typed r _ is .0)) $ drop ! $
         rewrite ! 9 (λ (u : Val). ‵ (fat fullShare LWaitingList.mir l3 0 u)) (ap only ((LL.tells RWaitingList.the-type LWaitingList.the-laws) r (w ∷ []) is)) refl $
@@ -152,14 +150,14 @@ module _ {M : Type 1} (𝓤 : URA M) (H : Heap 𝓤) (A : Atoms 𝓤) (W : Given
 module _ {M : Type 1} (𝓤 : URA M) (H : Heap 𝓤) (A : Atoms 𝓤) (W : Given 𝓤 H A) (at-mem : Memory → SProp 𝓤) (run : Routine → Fun 𝓤) (𝓣 : Tables 𝓤 H) where
   self-walks : Triple 𝓤 (𝓣 .C #callee) (Callee 𝓤 H A at-mem run) → Walks 𝓤 H A self.ended stayed (WpFn 𝓤 H (𝓣 .C) (𝓣 .Λ) spelled) (self.clauses 𝓤 H A at-mem run)
   self-walks known =
-      walked 𝓤 H A self.ended stayed (self.clauses 𝓤 H A at-mem run) (WpFn 𝓤 H (𝓣 .C) (𝓣 .Λ) spelled) (λ κs. (ptr-vals, ((array-vals bool-vals), tt))) (λ κs. (mut-tells (named 0) (κs .0) R, ((array-tells bool bool-vals bool-tells 16), tt)))
+      walked 𝓤 H A self.ended stayed (self.clauses 𝓤 H A at-mem run) (WpFn 𝓤 H (𝓣 .C) (𝓣 .Λ) spelled) (λ κs. (ptr-vals, ((uint-vals w64), tt))) (λ κs. (mut-tells (named 0) (κs .0) R, ((uint-tells w64), tt)))
       (λ κs qs bounds a g are. via 𝓤 _ (fst∗ 𝓤 _ (emp 𝓤)) (walk 𝓤 H A W at-mem run (κs .0) (qs .0) (a .0 .ptr .0) (a .0 .ptr .1) (a .0 .name) (a .0 .now) (a .1 .0) (are .1 .0) (𝓣 .C) (𝓣 .Λ) (fmOf 𝓤 H (W .laws) 𝓣) known))
 
 self-meets : {M : Type 1} (𝓤 : URA M) (H : Heap 𝓤) (A : Atoms 𝓤) (W : Given 𝓤 H A) (at-mem : Memory → SProp 𝓤) (run : Routine → Fun 𝓤) (𝓣 : Tables 𝓤 H)
     → Triple 𝓤 (𝓣 .C #callee) (Callee 𝓤 H A at-mem run)
     → Meets 𝓤 H A self.signature (WpFn 𝓤 H (𝓣 .C) (𝓣 .Λ) code.function) (self.spec 𝓤 H A at-mem run)
 self-meets 𝓤 H A W at-mem run 𝓣 known =
-    walk-meets 𝓤 H A self.ended stayed W (goes-ref 𝓤 H A W 1 0 tt (plain (λ _. R)), (goes-dropped 𝓤 H A W 1 (arrayOf (plain (λ _. bool)) 16) yes (λ κs y f. refl), tt)) (self.clauses 𝓤 H A at-mem run) (WpFn 𝓤 H (𝓣 .C) (𝓣 .Λ) code.function) (WpFn-mono 𝓤 H (W .laws) 𝓣 code.function)
+    walk-meets 𝓤 H A self.ended stayed W (goes-ref 𝓤 H A W 1 0 tt (plain (λ _. R)), (goes-dropped 𝓤 H A W 1 (plain (λ _. u64)) yes (λ κs y f. refl), tt)) (self.clauses 𝓤 H A at-mem run) (WpFn 𝓤 H (𝓣 .C) (𝓣 .Λ) code.function) (WpFn-mono 𝓤 H (W .laws) 𝓣 code.function)
     (subst (λ (f : Fn). Walks 𝓤 H A self.ended stayed (WpFn 𝓤 H (𝓣 .C) (𝓣 .Λ) f) (self.clauses 𝓤 H A at-mem run)) spelled-is (self-walks 𝓤 H A W at-mem run 𝓣 known))
 
 pub remove-spec : {M : Type 1} → stated.statement M

@@ -1,23 +1,36 @@
 -- How many the list says is how many the row has.
+use mathlib.Core.Path.{sym}
+use native.Mathlib.Omega.{arith}
+use Rattle.occurrences.specs.Packed.{held}
+use Rattle.waiting_lists.specs.Marks.{marksOf}
 use Rattle.waiting_lists.proofs.Counts.{rest-held}
+use Rattle.waiting_lists.proofs.Marks.{length-marks}
+use Rattle.waiting_lists.proofs.Removals.{unmarked-clear}
 use borrow.Author.Needs.{needs}
 use Rattle.waiting_lists.proofs.remove_from.Statement.{statement}
 use Rattle.waiting_lists.proofs.remove_from.Tie as tie
 
--- src/lib.rt:180:9
+first-marked-requires : tie.Need-first-marked-requires
+first-marked-requires c κs = search needs
+
+returns : tie.Need-returns
+returns c ticks =
+    let f = c .before .first-marked in
+    let a = c .before .before .args in
+    sym (unmarked-clear (held ticks (a .row .now) (a .waiting)) (marksOf (a .gone)) (omega (arith, length-marks (a .gone), f .ensures, c .if1 .taken)))
+
 without-requires : tie.Need-without-requires
 without-requires c κs = search needs
 
--- src/lib.rt:181:5
 close-up-requires : tie.Need-close-up-requires
 close-up-requires c κs = search needs
 
--- src/lib.rt:175:1
-returns : tie.Need-returns
-returns c =
+returns-2 : tie.Need-returns-2
+returns-2 c ticks =
     let w = c .before .before .without in
-    let a = c .before .before .before .before .before .args in
-    rw (w .ensures) (rest-held (a .row .now) (c .close-up .last .0) (a .waiting) (c .close-up .result) (a .gone) (search needs) (c .close-up .ensures))
+    let a = c .before .before .before .before .before .before .before .args in
+    rw (w .ensures) (rest-held ticks (a .row .now) (c .close-up .last .0) (a .waiting) (c .close-up .result) (marksOf (a .gone)) (search needs) (c .close-up .ensures ticks))
 
 pub remove-from-spec : {M : Type 1} → statement M
-remove-from-spec = tie.close (tie.spec without-requires close-up-requires returns)
+remove-from-spec =
+    tie.close (tie.spec first-marked-requires returns without-requires close-up-requires returns-2)

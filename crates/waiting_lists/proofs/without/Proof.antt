@@ -54,13 +54,11 @@ use types.Tokens.{lft-new, lft-end, lent-back}
 use denote.Lend.{lends-ref, ref-back, lends-shr}
 use denote.Builtin.{unit}
 use denote.Plain.{nothing-lawful}
+use Rattle.waiting_lists.specs.Marks.{marksOf}
 use Rattle.waiting_lists.specs.Steps.{fewer}
 use Rattle.waiting_lists.specs.declared.WaitingList.{WaitingList}
 use Rattle.waiting_lists.proofs.WaitingList as RWaitingList
 use Rattle.waiting_lists.proofs.WaitingList.Laws as LWaitingList
-use mir.Syntax.{tyArray}
-use denote.Array.{Array, array-vals, array-tells, array-lawful, array-makes}
-use denote.Signature.Array.{arrayOf}
 use Rattle.waiting_lists.proofs.remove as callee
 use Rattle.waiting_lists.proofs.remove.Symbol as callee-def
 use Rattle.waiting_lists.proofs.remove.Symbol.{name as #callee}
@@ -78,7 +76,7 @@ abbrev ref : Ty
 ref = tyRef erased mut (pointee (R .written))
 
 abbrev stayed : Stays (self.ended .signature .params) (self.ended .kept)
-stayed = (stay-dropped (plain (λ _. RWaitingList.the-row)) yes, (stay-dropped (arrayOf (plain (λ _. bool)) 16) yes, tt))
+stayed = (stay-dropped (plain (λ _. RWaitingList.the-row)) yes, (stay-dropped (plain (λ _. u64)) yes, tt))
 
 -- the function with its locals' types as this file writes them: over `code.function` itself the kernel may stop at its step limit
 abbrev spelled : Fn
@@ -86,7 +84,7 @@ spelled = record {
   lifetimes = 0;
   outlives = [];
   params = 2;
-  locals = local LWaitingList.mir valueLocal ∷ local LWaitingList.mir valueLocal ∷ local (tyArray tyBool 16) valueLocal ∷ local LWaitingList.mir memorySlot ∷ local tyUnit valueLocal ∷ local ref valueLocal ∷ [];
+  locals = local LWaitingList.mir valueLocal ∷ local LWaitingList.mir valueLocal ∷ local (tyInt w64) valueLocal ∷ local LWaitingList.mir memorySlot ∷ local tyUnit valueLocal ∷ local ref valueLocal ∷ [];
   body = parts.t-1;
 }
 
@@ -111,15 +109,15 @@ module _ {M : Type 1} (𝓤 : URA M) (H : Heap 𝓤) (A : Atoms 𝓤) (W : Given
       qed W (‵ (partAt R fullShare y b o) ∷ []) ∵ fpick ! (λ vs. fsplit ! $ spelt ! R (Is R) (shows 𝓤 H A R) (LL.vals RWaitingList.the-type LWaitingList.the-laws) (LL.tells RWaitingList.the-type LWaitingList.the-laws) fullShare y vs b o $
       use1 W (‵ (fat fullShare LWaitingList.mir b o (LL.val RWaitingList.the-type LWaitingList.the-laws y))) (W .laws .raw-at fullShare LWaitingList.mir b o (LL.val RWaitingList.the-type LWaitingList.the-laws y)) $ done !)
 
-module _ {M : Type 1} (𝓤 : URA M) (H : Heap 𝓤) (A : Atoms 𝓤) (W : Given 𝓤 H A) (at-mem : Memory → SProp 𝓤) (run : Routine → Fun 𝓤) (h : WaitingList) (gh : Is RWaitingList.the-row h ((LL.val RWaitingList.the-type LWaitingList.the-laws h) ∷ [])) (p1 : (List Bool)) (gp1 : Is (Array bool 16) p1 ((only (array-vals bool-vals p1)) ∷ [])) where
+module _ {M : Type 1} (𝓤 : URA M) (H : Heap 𝓤) (A : Atoms 𝓤) (W : Given 𝓤 H A) (at-mem : Memory → SProp 𝓤) (run : Routine → Fun 𝓤) (h : WaitingList) (gh : Is RWaitingList.the-row h ((LL.val RWaitingList.the-type LWaitingList.the-laws h) ∷ [])) (p1 : ℕ) (gp1 : Is u64 p1 ((vint w64 p1) ∷ [])) where
   abbrev Arg : Type 0
-  Arg = WaitingList × ((List Bool) × (Unit {0}))
+  Arg = WaitingList × (ℕ × (Unit {0}))
 
   abbrev x : Arg
   x = (h, (p1, tt))
 
   abbrev at : List Val × (List Val × (Unit {0}))
-  at = ((LL.val RWaitingList.the-type LWaitingList.the-laws h) ∷ [], ((only (array-vals bool-vals p1)) ∷ [], tt))
+  at = ((LL.val RWaitingList.the-type LWaitingList.the-laws h) ∷ [], ((vint w64 p1) ∷ [], tt))
 
   abbrev Post : Val → SProp 𝓤
   Post = walkOf 𝓤 H A self.ended stayed (self.clauses 𝓤 H A at-mem run) .post ((tt, tt, tt, x, at), tt)
@@ -131,25 +129,25 @@ module _ {M : Type 1} (𝓤 : URA M) (H : Heap 𝓤) (A : Atoms 𝓤) (W : Given
   lent b δ = record { ptr = (b, 0); name = δ; now = h }
 
   abbrev to : ℕ → ℕ → GName → Callee 𝓤 H A at-mem run .Ghost
-  to b ν δ = (((ν ∷ [], tt), (fullShare, tt), tt, (lent b δ, (p1, tt)), (vptr b 0 ∷ [], ((only (array-vals bool-vals p1)) ∷ [], tt))), tt)
+  to b ν δ = (((ν ∷ [], tt), (fullShare, tt), tt, (lent b δ, (p1, tt)), (vptr b 0 ∷ [], ((vint w64 p1) ∷ [], tt))), tt)
 
   goes-to : (b ν : ℕ) (δ : GName) → ent 𝓤 (sep 𝓤 (A .lft (ν ∷ []) fullShare) (sem 𝓤 H A (MutRef (named 0) (ν ∷ []) R .own (lent b δ) (vptr b 0 ∷ [])))) (Callee 𝓤 H A at-mem run .pre (to b ν δ))
   goes-to b ν δ =
-      qed W (‵ (flft (ν ∷ []) fullShare) ∷ ‵ (MutRef (named 0) (ν ∷ []) R .own (lent b δ) (vptr b 0 ∷ [])) ∷ []) ∵ nothing ! $ move ! (1 ∷ 0 ∷ []) $ join ! $ move ! (1 ∷ []) $ nothing ! $ owned ! (Array bool 16) (Is (Array bool 16)) (array-makes 𝓤 H A W bool (bool-makes 𝓤 H A W) 16) p1 ((only (array-vals bool-vals p1)) ∷ []) gp1 $ fjoin ! $ move ! (1 ∷ 0 ∷ []) $ fjoin ! $ move ! (1 ∷ 0 ∷ []) $ join ! $ frame ! $ done !
+      qed W (‵ (flft (ν ∷ []) fullShare) ∷ ‵ (MutRef (named 0) (ν ∷ []) R .own (lent b δ) (vptr b 0 ∷ [])) ∷ []) ∵ nothing ! $ move ! (1 ∷ 0 ∷ []) $ join ! $ move ! (1 ∷ []) $ nothing ! $ owned ! u64 (Is u64) (uint-makes 𝓤 H A W w64) p1 ((vint w64 p1) ∷ []) gp1 $ fjoin ! $ move ! (1 ∷ 0 ∷ []) $ fjoin ! $ move ! (1 ∷ 0 ∷ []) $ join ! $ frame ! $ done !
 
   abbrev Said : Unit {0} → WaitingList → Type 0
-  Said r z = z ≡ fewer h p1
+  Said r z = z ≡ fewer h (marksOf p1)
 
-  exits : (r : WaitingList) (u : Val) → r ≡ fewer h p1 → Is RWaitingList.the-row r (u ∷ []) → ent 𝓤 (emp 𝓤) (Post u)
+  exits : (r : WaitingList) (u : Val) → r ≡ fewer h (marksOf p1) → Is RWaitingList.the-row r (u ∷ []) → ent 𝓤 (emp 𝓤) (Post u)
   exits r u e is =
       qed W [] ∵ suffices ! _ (ends-at 𝓤 H A self.ended stayed (self.clauses 𝓤 H A at-mem run) W ((tt, tt, tt, x, at), tt) u r (tt, (tt, tt)) (tt, (tt, tt))) $ says ! e $
       owned ! RWaitingList.the-row (Is RWaitingList.the-row) (LL.makes RWaitingList.the-type LWaitingList.the-plain 𝓤 H A) r (u ∷ []) is $ nothing ! $ nothing ! $ fjoin ! $ nothing ! $ fjoin ! $ nothing ! $ done !
 
   module _ (C : Calls 𝓤 H) (Λ : Loops 𝓤 H) (fm : FmC 𝓤 H (W .laws) C) (known : Triple 𝓤 (C #callee) (Callee 𝓤 H A at-mem run)) where
-    walk : ent 𝓤 (onEntry 𝓤 H A self.signature tt tt x at) (WpFn 𝓤 H C Λ spelled ((LL.val RWaitingList.the-type LWaitingList.the-laws h) ∷ (only (array-vals bool-vals p1)) ∷ []) Post)
+    walk : ent 𝓤 (onEntry 𝓤 H A self.signature tt tt x at) (WpFn 𝓤 H C Λ spelled ((LL.val RWaitingList.the-type LWaitingList.the-laws h) ∷ (vint w64 p1) ∷ []) Post)
     walk =
-        qed W (‵ ftrue ∷ ‵ (owns (RWaitingList.the-row ∷ (Array bool 16) ∷ []) x at) ∷ []) ∵ keep ! [] $ enter ! C Λ spelled ((LL.val RWaitingList.the-type LWaitingList.the-laws h) ∷ (only (array-vals bool-vals p1)) ∷ []) _ $
-        alloc1 ! (λ l0. alloc1 ! (λ l1. alloc1 ! (λ l2. alloc1 ! (λ l3. alloc1 ! (λ l4. alloc1 ! (λ l5. alloc0 ! $ params1 ! $ pass1 ! (init ! 8 refl (typedS h gh)) $ pass1 ! (init ! 6 refl (array-lawful 𝓤 H A W bool (bool-lawful 𝓤 H A W) 16 .typed p1 _ gp1 .0)) $ pass0 ! $
+        qed W (‵ ftrue ∷ ‵ (owns (RWaitingList.the-row ∷ u64 ∷ []) x at) ∷ []) ∵ keep ! [] $ enter ! C Λ spelled ((LL.val RWaitingList.the-type LWaitingList.the-laws h) ∷ (vint w64 p1) ∷ []) _ $
+        alloc1 ! (λ l0. alloc1 ! (λ l1. alloc1 ! (λ l2. alloc1 ! (λ l3. alloc1 ! (λ l4. alloc1 ! (λ l5. alloc0 ! $ params1 ! $ pass1 ! (init ! 8 refl (typedS h gh)) $ pass1 ! (init ! 6 refl (uint-lawful 𝓤 H A W w64 .typed p1 _ gp1 .0)) $ pass0 ! $
         assigns ! (of-opd ! (load ! (from ! (stop !)) (look ! 8 refl))) (from ! (stop !)) (init ! 4 refl (typedS h gh)) $
         assigns ! (addr ! (from ! (stop !))) (from ! (stop !)) (init ! 0 refl (tt, tt)) $
         move ! (4 ∷ []) $ use1 W (‵ (partAt R fullShare h l3 0)) (lies-in 𝓤 H A W h l3 0 gh) $ lft-new ! tt (λ ν. move ! (1 ∷ []) $
@@ -169,14 +167,14 @@ module _ {M : Type 1} (𝓤 : URA M) (H : Heap 𝓤) (A : Atoms 𝓤) (W : Given
 module _ {M : Type 1} (𝓤 : URA M) (H : Heap 𝓤) (A : Atoms 𝓤) (W : Given 𝓤 H A) (at-mem : Memory → SProp 𝓤) (run : Routine → Fun 𝓤) (𝓣 : Tables 𝓤 H) where
   self-walks : Triple 𝓤 (𝓣 .C #callee) (Callee 𝓤 H A at-mem run) → Walks 𝓤 H A self.ended stayed (WpFn 𝓤 H (𝓣 .C) (𝓣 .Λ) spelled) (self.clauses 𝓤 H A at-mem run)
   self-walks known =
-      walked 𝓤 H A self.ended stayed (self.clauses 𝓤 H A at-mem run) (WpFn 𝓤 H (𝓣 .C) (𝓣 .Λ) spelled) (λ κs. ((LL.vals RWaitingList.the-type LWaitingList.the-laws), ((array-vals bool-vals), tt))) (λ κs. ((LL.tells RWaitingList.the-type LWaitingList.the-laws), ((array-tells bool bool-vals bool-tells 16), tt)))
+      walked 𝓤 H A self.ended stayed (self.clauses 𝓤 H A at-mem run) (WpFn 𝓤 H (𝓣 .C) (𝓣 .Λ) spelled) (λ κs. ((LL.vals RWaitingList.the-type LWaitingList.the-laws), ((uint-vals w64), tt))) (λ κs. ((LL.tells RWaitingList.the-type LWaitingList.the-laws), ((uint-tells w64), tt)))
       (λ κs qs bounds a g are. via 𝓤 _ (fst∗ 𝓤 _ (emp 𝓤)) (walk 𝓤 H A W at-mem run (a .0) (are .0) (a .1 .0) (are .1 .0) (𝓣 .C) (𝓣 .Λ) (fmOf 𝓤 H (W .laws) 𝓣) known))
 
 self-meets : {M : Type 1} (𝓤 : URA M) (H : Heap 𝓤) (A : Atoms 𝓤) (W : Given 𝓤 H A) (at-mem : Memory → SProp 𝓤) (run : Routine → Fun 𝓤) (𝓣 : Tables 𝓤 H)
     → Triple 𝓤 (𝓣 .C #callee) (Callee 𝓤 H A at-mem run)
     → Meets 𝓤 H A self.signature (WpFn 𝓤 H (𝓣 .C) (𝓣 .Λ) code.function) (self.spec 𝓤 H A at-mem run)
 self-meets 𝓤 H A W at-mem run 𝓣 known =
-    walk-meets 𝓤 H A self.ended stayed W (goes-dropped 𝓤 H A W 0 (plain (λ _. RWaitingList.the-row)) yes (λ κs y f. refl), (goes-dropped 𝓤 H A W 0 (arrayOf (plain (λ _. bool)) 16) yes (λ κs y f. refl), tt)) (self.clauses 𝓤 H A at-mem run) (WpFn 𝓤 H (𝓣 .C) (𝓣 .Λ) code.function) (WpFn-mono 𝓤 H (W .laws) 𝓣 code.function)
+    walk-meets 𝓤 H A self.ended stayed W (goes-dropped 𝓤 H A W 0 (plain (λ _. RWaitingList.the-row)) yes (λ κs y f. refl), (goes-dropped 𝓤 H A W 0 (plain (λ _. u64)) yes (λ κs y f. refl), tt)) (self.clauses 𝓤 H A at-mem run) (WpFn 𝓤 H (𝓣 .C) (𝓣 .Λ) code.function) (WpFn-mono 𝓤 H (W .laws) 𝓣 code.function)
     (subst (λ (f : Fn). Walks 𝓤 H A self.ended stayed (WpFn 𝓤 H (𝓣 .C) (𝓣 .Λ) f) (self.clauses 𝓤 H A at-mem run)) spelled-is (self-walks 𝓤 H A W at-mem run 𝓣 known))
 
 pub without-spec : {M : Type 1} → stated.statement M
