@@ -1,6 +1,7 @@
 # awk -f list.awk crates/*/src/*.rt mutate=1 crates/NAME/src/lib.rt
 # The mutants of one source file: small wrong edits of the bodies of functions that have a contract, and of constants.
-# Each is printed as the number of a line, a tab, and what stands there instead. The other files only tell the types of names.
+# Each is printed as the number of a line, the function that it is in (TYPE/NAME for a method, - for a constant) and what stands there
+# instead, with tabs between. The other files only tell the types of names.
 # It reads the layout of `rt fmt`: each clause of a contract on one line, a body's braces at the depth of its `fn`.
 # No type is checked here: an edit that does not compile is none.
 
@@ -32,14 +33,20 @@ BEGIN {
 
 code ~ /^impl / { owner = $2 }
 code ~ /^ *(pub )?const / && !in_body { in_const = 1; forget() }
-in_const { mutate_line(FNR, code); if (code ~ /;$/) in_const = 0; next }
-!in_body && code ~ head { in_head = 1; contract = 0; depth = indent(code); forget() }
+in_const { place = "-"; mutate_line(FNR, code); if (code ~ /;$/) in_const = 0; next }
+!in_body && code ~ head { in_head = 1; contract = 0; depth = indent(code); place = place_of(code); forget() }
 !in_body && code ~ /fn [a-z_0-9]+\(self[,)]/ { local("self", owner) }
 in_head && /^ *(requires|ensures) / { contract = contract || /^ *ensures /; next }
 in_head { declare_parameters(code) }
 in_head && code ~ /(^ *| )\{$/ { in_head = 0; in_body = 1; lines = 0; next }
 in_body && code ~ /^ *\}$/ && indent(code) == depth { in_body = 0; if (contract) mutate_body(); next }
 in_body { number[++lines] = FNR; body[lines] = code }
+
+function place_of(text,    name) {
+    name = text
+    sub(/.*fn /, "", name); sub(/\(.*/, "", name)
+    return indent(text) ? owner "/" name : name
+}
 
 function indent(text) { match(text, /^ */); return RLENGTH }
 
@@ -175,7 +182,7 @@ function with(i, j, new,    k, text) {
 function edit(at, old, new) {
     if (new == old || ((at, new) in told)) return
     told[at, new] = 1
-    print at "\t" new
+    print at "\t" place "\t" new
 }
 
 function mutate_word(at, text, i,    word, before, after) {

@@ -1,33 +1,28 @@
--- What an arrival makes goes out: one for each marked, place by place, or one for all.
-use mathlib.Core.Bool.{Bool, true, false}
+-- What an arrival makes goes out: one for each marked, from the first mark on, or one for all.
+use mathlib.Core.Bool.{Bool, false}
 use mathlib.Core.List.{List, [], _∷_, map}
 use mathlib.Core.Path.{_≡_, sym, ap, _∙_}
-use Prim.Native.Nat.{ℕ, _+_, _≤_, _<_}
-use lib.ListN.{drop, getD, length}
+use Prim.Native.Nat.{ℕ, _≤_, _<_}
+use lib.ListN.{getD, length, set}
 use Rattle.sequences.specs.Loops.{fold}
-use Rattle.sequences.specs.Marks.{marked}
+use Rattle.sequences.specs.Marks.{firstMark, marked}
 use Rattle.sequences.proofs.Loops.{fold-none, fold-next}
-use Rattle.sequences.proofs.Marks.{marked-yes, marked-no, marked-end}
+use Rattle.sequences.proofs.Marks.{marked-first, marked-none}
 use Rattle.occurrences.specs.declared.Occurrence.{Occurrence}
 use Rattle.contexts.specs.Made.{madeOf}
 use Rattle.contexts.specs.Table.{Findings}
 use Rattle.emissions.specs.Emissions.{Emitting, emitted, emittedAll}
 
 -- ---- a loop over those marked that passes on something made of each
-module _ {S A B : Type 0} (f : S → B → S) (g : A → B) (l : List A) (m : List Bool) (i : ℕ) where
-  abbrev rest : ℕ → S → S
-  rest k s = fold f (map g (marked (drop k l) (drop k m))) s
+module _ {S A B : Type 0} (f : S → B → S) (g : A → B) (l : List A) (m : List Bool) where
+  pub each-turn : (m′ : List Bool) (d : A) → firstMark m < length l → firstMark m < length m → m′ ≡ set m (firstMark m) false → (s s′ : S) → s′ ≡ f s (g (getD l (firstMark m) d))
+      → fold f (map g (marked l m′)) s′ ≡ fold f (map g (marked l m)) s
+  each-turn m′ d in-l in-m r s s′ e =
+      ap (fold f (map g (marked l m′))) e ∙ ap (λ n. fold f (map g (marked l n)) (f s (g (getD l (firstMark m) d)))) r
+      ∙ sym (ap (λ x. fold f (map g x) s) (marked-first l m d in-l in-m) ∙ fold-next f (g (getD l (firstMark m) d)) (map g (marked l (set m (firstMark m) false))) s)
 
-  module _ (d : A) (in-l : i < length l) (in-m : i < length m) where
-    pub each-yes : (s s′ : S) → getD m i false ≡ true → s′ ≡ f s (g (getD l i d)) → rest (i + 1) s′ ≡ rest i s
-    each-yes s s′ y e =
-        ap (rest (i + 1)) e ∙ sym (ap (λ x. fold f (map g x) s) (marked-yes l m i d in-l in-m y) ∙ fold-next f (g (getD l i d)) (map g (marked (drop (i + 1) l) (drop (i + 1) m))) s)
-
-    pub each-no : (s : S) → getD m i false ≡ false → rest (i + 1) s ≡ rest i s
-    each-no s n = ap (λ x. fold f (map g x) s) (sym (marked-no l m i d in-l in-m n))
-
-  pub each-end : (s : S) → length l ≤ i → rest i s ≡ s
-  each-end s h = ap (λ x. fold f (map g x) s) (marked-end l m i h) ∙ fold-none f s
+  pub each-end : (s : S) → length l ≤ firstMark m → fold f (map g (marked l m)) s ≡ s
+  each-end s h = ap (λ x. fold f (map g x) s) (marked-none l m h) ∙ fold-none f s
 
 -- ---- none, or one
 module _ (room : ℕ) (loggers : List ℕ) (place : ℕ) (e : Emitting) (l : List Occurrence) where

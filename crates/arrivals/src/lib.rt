@@ -54,14 +54,14 @@ fn emit_each(
     let n = waiting_lists::count(waiting);
     let row = &list[..];
     let mut f = e;
-    let mut i: usize = 0;
+    let mut rest = taken;
+    let mut i = waiting_lists::first_marked(rest);
     while i < n {
-        let next = i + 1;
-        if waiting_lists::is_marked(taken, i) {
-            let c = occurrences::combined(&row[i], o, ticks, ratio);
-            f = emissions::emit_one(f, made, place, &c, ticks, loggers, out);
-        }
-        i = next;
+        let c = occurrences::combined(&row[i], o, ticks, ratio);
+        f = emissions::emit_one(f, made, place, &c, ticks, loggers, out);
+        // Without its lowest mark.
+        rest = rest & (rest - 1);
+        i = waiting_lists::first_marked(rest);
     }
     f
 }

@@ -19,11 +19,10 @@ use Rattle.sequences.proofs.Members.{same-append, same-refl, same-sym, same-tra
 use Rattle.sequences.proofs.Select.{any-members, any-none, any-or, any-same, none-of-any}
 use Rattle.timestamps.specs.declared.Timestamp.{Timestamp}
 use Rattle.timestamps.specs.declared.CompositeTimestamp.{CompositeTimestamp}
-use Rattle.timestamps.specs.declared.Met.{Met}
 use Rattle.timestamps.specs.Comparison.{relationOf}
 use Rattle.timestamps.specs.Composite.{members}
 use Rattle.timestamps.specs.Order.{before, concurrent, valid, validRatio}
-use Rattle.timestamps.specs.Steps.{addedTo, metIn}
+use Rattle.timestamps.specs.Steps.{Met, addedTo, metIn}
 use Rattle.timestamps.proofs.Composite.{members-none}
 use Rattle.timestamps.proofs.Groupings.{valid-place}
 use Rattle.timestamps.proofs.Join.{Sized, added-covers}

@@ -18,9 +18,8 @@ use Rattle.timestamps.specs.declared.Timestamp.{Timestamp}
 use Rattle.timestamps.specs.Comparison.{relationOf}
 use Rattle.timestamps.specs.Composite.{members, stampAt}
 use Rattle.timestamps.specs.Order.{largestTick, validRatio}
-use Rattle.timestamps.specs.Steps.{metIn, spanOf, relatedAt as meetingAt}
+use Rattle.timestamps.specs.Steps.{metIn, relatedAt as meetingAt}
 use Rattle.timestamps.proofs.Composite.{stamp-in}
-use Rattle.timestamps.proofs.Spans.{met-by}
 use Rattle.timestamps.proofs.Steps.{relatedFrom, related-end, related-start, related-turn}
 use Rattle.open_calls.specs.Marks.{markAt, stampsOf}
 use Rattle.comparisons.specs.Marks.{isEarlier, isLater, relatedAt, relatedMarks}
@@ -77,10 +76,10 @@ module _ (ratio from till : ℕ) (a b : List ℕ) (v : validRatio ratio ≡ true
       met-marks ratio from till a (s k) v p l (omega arith)
       ∙ ap (λ w. record { earlier = isEarlier from (markAt a k) w; later = isLater till (markAt a k) w }) (mark-is k h)
 
-  related-is : (k : ℕ) (r : Relation) → k < 8 → relatedAt from till (markAt a k) (markAt b k) r ≡ meetingAt ratio (spanOf ratio (stampsOf a)) (stampsOf a) (stampsOf b) r k
+  related-is : (k : ℕ) (r : Relation) → k < 8 → relatedAt from till (markAt a k) (markAt b k) r ≡ meetingAt ratio (stampsOf a) (stampsOf b) r k
   unfolding relatedAt meetingAt
   related-is k r l = elim (decLt 0 (markAt b k)) [
-    | yes h ↦ rw (ne-eqb (markAt b k) 0 (λ e. omega (arith, e, h)), present-at b k, lt-ltb 0 (markAt b k) h, met-by ratio (stampsOf a) (s k), met-is k l h)
+    | yes h ↦ rw (ne-eqb (markAt b k) 0 (λ e. omega (arith, e, h)), present-at b k, lt-ltb 0 (markAt b k) h, met-is k l h)
     | no h ↦ rw (eq-eqb (markAt b k) 0 (omega arith), present-at b k, le-ltb 0 (markAt b k) (omega arith))
   ]
 
@@ -92,7 +91,7 @@ module _ (ratio from till : ℕ) (a b : List ℕ) (v : validRatio ratio ≡ true
   rest (suc n) k r e =
       rw (range-next k n, fold-next step k (range (k + 1) n) r)
       (rest n (k + 1) (step r k) (omega arith)
-      ∙ related-turn ratio (stampsOf a) (stampsOf b) (spanOf ratio (stampsOf a)) r (step r k) k (omega arith) refl (related-is k r (omega arith)))
+      ∙ related-turn ratio (stampsOf a) (stampsOf b) r (step r k) k (omega arith) (related-is k r (omega arith)))
 
   pub relation-is : relatedMarks from till a b ≡ relationOf ratio (members (stampsOf a)) (members (stampsOf b))
   unfolding relatedMarks

@@ -7,6 +7,7 @@ use native.Mathlib.Omega.{arith}
 use borrow.Author.Tests.{eq-eqb, ne-eqb, not-true, not-false}
 use lib.Bits.{bitAnd, bitXor}
 use lib.ListN.{length, drop, getD, replicate, set, take, length-map}
+use lib.Seq.{getD-set-other, getD-set-same}
 use Rattle.sequences.specs.Choice.{pick}
 use Rattle.sequences.specs.Loops.{fold}
 use Rattle.sequences.specs.Marks.{marked, padded}
@@ -18,12 +19,14 @@ use Rattle.sequences.proofs.Select.{any-none}
 use Rattle.occurrences.specs.declared.Occurrence.{Occurrence}
 use Rattle.occurrences.specs.Occurrences.{blank, isBefore}
 use Rattle.occurrences.specs.Packed.{held, occurrenceOf}
+use Rattle.occurrences.specs.Steps.{LowestOf}
+use Rattle.occurrences.proofs.Steps.{next-place}
 use Rattle.waiting_lists.specs.Marks.{marksOf}
 use Rattle.waiting_lists.proofs.Marks.{length-marks, marks-and, marks-less, marks-turn, padded-next}
 use Rattle.waiting_lists.proofs.Places.{waiting-at}
 use Rattle.contexts.specs.declared.Row.{Row}
 use Rattle.contexts.specs.Choice.{andCandidates, chosen, removedOf, removes, takenOf, takes}
-use Rattle.contexts.specs.Steps.{barsOf}
+use Rattle.contexts.specs.Steps.{Lows, barsOf}
 use Rattle.contexts.specs.Table.{Taken, latest, earliest, every, each, together, untaken, taken, all, Context, takesOf, findsOf, removesOf, contextOf}
 
 -- ---- codes
@@ -77,6 +80,12 @@ module _ (mark : Bool) (code ratio : ℕ) (w c : Occurrence) (on : not mark ≡ 
   pub bars-every : (code ≡ 0 → ⊥) → (code ≡ 1 → ⊥) → false ≡ (mark && barsOf (takesOf code) ratio w c)
   unfolding barsOf
   bars-every n o = rw (not-false mark on, code-every code n o)
+
+-- the lowest of one more
+pub lows-turn : (ticks : List ℕ) (list : List (List ℕ)) (lows : List ℕ) (i v : ℕ) → i < length lows → LowestOf ticks (getD list i []) v → Lows ticks list i lows → Lows ticks list (i + 1) (set lows i v)
+lows-turn ticks list lows i v h e l = next-place (λ j. LowestOf ticks (getD list j []) (getD (set lows i v) j 0)) i
+    (λ j m. rw (getD-set-other lows i j v 0 (λ d. omega (arith, d, m))) (l j m))
+    (rw (getD-set-same lows i v 0 h) e)
 
 -- a candidate is taken where no candidate bars it
 takes-unbarred : (t : Taken) (ratio : ℕ) (candidates : List Occurrence) (w : Occurrence) → not (any (barsOf t ratio w) candidates) ≡ takes t ratio candidates w

@@ -1,8 +1,8 @@
 // What each context takes, makes and removes: document 01's table of four rows, the choice, and what is made of those taken.
 ghost use mathlib.Core.Bool.{_&&_, false, true};
-ghost use mathlib.Core.List.{List};
+ghost use mathlib.Core.List.{List, []};
 ghost use mathlib.Core.Path.{_≡_};
-ghost use Prim.Native.Nat.{min, _<_};
+ghost use Prim.Native.Nat.{min, _<_, _≤_};
 ghost use lib.ListN.{getD, length};
 ghost use Rattle.sequences.specs.Loops.{fold};
 ghost use Rattle.sequences.specs.Marks.{marked};
@@ -10,9 +10,10 @@ ghost use Rattle.sequences.specs.Select.{any};
 ghost use Rattle.occurrences.specs.declared.Occurrence.{Occurrence};
 ghost use Rattle.occurrences.specs.Combination.{combinedOf};
 ghost use Rattle.occurrences.specs.Packed.{held, occurrenceOf};
+ghost use Rattle.occurrences.specs.Steps.{LowestOf};
 ghost use Rattle.waiting_lists.specs.Marks.{marksOf};
 ghost use Rattle.contexts.specs.Choice.{andCandidates, chosen, removedOf, seqCandidates, takenOf, takes};
-ghost use Rattle.contexts.specs.Steps.{barsOf};
+ghost use Rattle.contexts.specs.Steps.{Lows, barsOf};
 ghost use Rattle.contexts.specs.Table.{contextOf, each, recent, removesOf, rowOf, table, takesOf, together};
 
 // ---- the table
@@ -102,13 +103,17 @@ pub fn before_arrival(
     ticks: &[u64; 256],
     ratio: u64,
 ) -> u64
+    requires { ⌜ getD (now ticks) 0 0 ≡ 0 ⌝ }
     ensures { λ r. ⌜ marksOf r ≡ seqCandidates ratio (held (now (ticks .entry)) (now (list .entry)) waiting) (occurrenceOf (now (ticks .entry)) (now (o .entry))) ⌝ }
 {
+    let first = occurrences::lowest(o, ticks);
     let n = waiting_lists::count_in(list, waiting);
     let mut marks: u64 = 0;
     let mut i: usize = 0;
     while i < n {
-        marks = waiting_lists::with_mark(marks, i, occurrences::before(&list[i], o, ticks, ratio));
+        let low = occurrences::lowest(&list[i], ticks);
+        let is = occurrences::before(low, first, &list[i], o, ticks, ratio);
+        marks = waiting_lists::with_mark(marks, i, is);
         i = i + 1;
     }
     marks
@@ -130,40 +135,69 @@ pub struct Choice {
     pub removed: u64,
 }
 
-// Whether c, where it is a candidate, keeps w from being taken.
-fn bars(mark: bool, rule: u64, w: &[u64; 3], c: &[u64; 3], ticks: &[u64; 256], ratio: u64) -> bool
+// The earliest timestamp of each of the first n.
+fn lows_of(list: &[[u64; 3]; 16], n: usize, ticks: &[u64; 256]) -> [u64; 16]
+    requires { ⌜ (n ≤ 16) × (getD (now ticks) 0 0 ≡ 0) ⌝ }
+    ensures { λ r. ⌜ Lows (now (ticks .entry)) (now (list .entry)) n r ⌝ }
+{
+    let mut lows = [0u64; 16];
+    let mut i: usize = 0;
+    while i < n {
+        lows[i] = occurrences::lowest(&list[i], ticks);
+        i = i + 1;
+    }
+    lows
+}
+
+// Whether c, where it is a candidate, keeps w from being taken; beside each its earliest timestamp.
+fn bars(
+    mark: bool,
+    rule: u64,
+    low: u64,
+    w: &[u64; 3],
+    other: u64,
+    c: &[u64; 3],
+    ticks: &[u64; 256],
+    ratio: u64,
+) -> bool
+    requires { ⌜ LowestOf (now ticks) (now w) low × LowestOf (now ticks) (now c) other ⌝ }
     ensures { λ r. ⌜ r ≡ (mark && barsOf (takesOf rule) ratio (occurrenceOf (now (ticks .entry)) (now (w .entry))) (occurrenceOf (now (ticks .entry)) (now (c .entry)))) ⌝ }
 {
     if !mark {
         false
     } else if rule == Row::LATEST {
-        occurrences::before(w, c, ticks, ratio)
+        occurrences::before(low, other, w, c, ticks, ratio)
     } else if rule == Row::EARLIEST {
-        occurrences::before(c, w, ticks, ratio)
+        occurrences::before(other, low, c, w, ticks, ratio)
     } else {
         false
     }
 }
 
-// Whether some candidate does.
+// Whether some candidate keeps the one at place i from being taken.
 fn barred(
     rule: u64,
-    w: &[u64; 3],
+    i: usize,
     list: &[[u64; 3]; 16],
+    lows: &[u64; 16],
     waiting: usize,
     candidates: u64,
     ticks: &[u64; 256],
     ratio: u64,
 ) -> bool
-    ensures { λ r. ⌜ r ≡ any (barsOf (takesOf rule) ratio (occurrenceOf (now (ticks .entry)) (now (w .entry)))) (marked (held (now (ticks .entry)) (now (list .entry)) waiting) (marksOf candidates)) ⌝ }
+    requires { ⌜ (i < length (held (now ticks) (now list) waiting)) × Lows (now ticks) (now list) (length (held (now ticks) (now list) waiting)) (now lows) ⌝ }
+    ensures { λ r. ⌜ r ≡ any (barsOf (takesOf rule) ratio (occurrenceOf (now (ticks .entry)) (getD (now (list .entry)) i []))) (marked (held (now (ticks .entry)) (now (list .entry)) waiting) (marksOf candidates)) ⌝ }
 {
     let n = waiting_lists::count_in(list, waiting);
+    let low = lows[i];
     let mut j: usize = 0;
     while j < n {
         if bars(
             waiting_lists::is_marked(candidates, j),
             rule,
-            w,
+            low,
+            &list[i],
+            lows[j],
             &list[j],
             ticks,
             ratio,
@@ -175,23 +209,25 @@ fn barred(
     false
 }
 
-// Whether w, where it is a candidate, is taken.
+// Whether the one at place i, where it is a candidate, is taken.
 fn is_taken(
     mark: bool,
     rule: u64,
-    w: &[u64; 3],
+    i: usize,
     list: &[[u64; 3]; 16],
+    lows: &[u64; 16],
     waiting: usize,
     candidates: u64,
     ticks: &[u64; 256],
     ratio: u64,
 ) -> bool
-    ensures { λ r. ⌜ r ≡ (mark && takes (takesOf rule) ratio (marked (held (now (ticks .entry)) (now (list .entry)) waiting) (marksOf candidates)) (occurrenceOf (now (ticks .entry)) (now (w .entry)))) ⌝ }
+    requires { ⌜ (i < length (held (now ticks) (now list) waiting)) × Lows (now ticks) (now list) (length (held (now ticks) (now list) waiting)) (now lows) ⌝ }
+    ensures { λ r. ⌜ r ≡ (mark && takes (takesOf rule) ratio (marked (held (now (ticks .entry)) (now (list .entry)) waiting) (marksOf candidates)) (occurrenceOf (now (ticks .entry)) (getD (now (list .entry)) i []))) ⌝ }
 {
     if !mark {
         false
     } else {
-        !barred(rule, w, list, waiting, candidates, ticks, ratio)
+        !barred(rule, i, list, lows, waiting, candidates, ticks, ratio)
     }
 }
 
@@ -204,12 +240,14 @@ fn taken_by(
     ticks: &[u64; 256],
     ratio: u64,
 ) -> u64
+    requires { ⌜ getD (now ticks) 0 0 ≡ 0 ⌝ }
     ensures { λ r. ⌜ marksOf r ≡ takenOf (takesOf rule) ratio (held (now (ticks .entry)) (now (list .entry)) waiting) (marksOf candidates) ⌝ }
 {
     let n = waiting_lists::count_in(list, waiting);
     if Row::EVERY <= rule {
         return candidates & all_waiting(n);
     }
+    let lows = lows_of(list, n, ticks);
     let mut marks: u64 = 0;
     let mut i: usize = 0;
     while i < n {
@@ -217,8 +255,9 @@ fn taken_by(
         let taken = is_taken(
             mark,
             rule,
-            &list[i],
+            i,
             list,
+            &lows,
             waiting,
             candidates,
             ticks,
@@ -252,6 +291,7 @@ pub fn choose(
     ticks: &[u64; 256],
     ratio: u64,
 ) -> Choice
+    requires { ⌜ getD (now ticks) 0 0 ≡ 0 ⌝ }
     ensures { λ r. ⌜ (marksOf (r .taken) ≡ chosen (rowOf context) ratio (held (now (ticks .entry)) (now (list .entry)) waiting) (marksOf candidates) .taken) × (marksOf (r .removed) ≡ chosen (rowOf context) ratio (held (now (ticks .entry)) (now (list .entry)) waiting) (marksOf candidates) .removed) ⌝ }
 {
     let row = row_of(context);

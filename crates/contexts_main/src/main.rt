@@ -65,9 +65,15 @@ fn write_element(set: EventSet, number: usize) {
     }
 }
 
-fn write_events(o: &[u64; 3], ticks: &[u64; 256]) {
-    let w = occurrences::unpacked(o, ticks);
-    let set = w.events;
+fn events_of(o: &[u64; 3]) -> EventSet {
+    EventSet {
+        low: o[0],
+        high: o[1],
+    }
+}
+
+fn write_events(o: &[u64; 3]) {
+    let set = events_of(o);
     let mut i: usize = 0;
     while i < 128 {
         write_element(set, i);
@@ -76,11 +82,11 @@ fn write_events(o: &[u64; 3], ticks: &[u64; 256]) {
     write(b",");
 }
 
-fn write_waiting(list: &[[u64; 3]; 16], waiting: usize, ticks: &[u64; 256]) {
+fn write_waiting(list: &[[u64; 3]; 16], waiting: usize) {
     let n = waiting_lists::count(waiting);
     let mut i: usize = 0;
     while i < n {
-        write_events(&list[i], ticks);
+        write_events(&list[i]);
         i = i + 1;
     }
 }
@@ -90,7 +96,7 @@ fn write_combined(mark: bool, w: &[u64; 3], o: &[u64; 3], ticks: &[u64; 256])
 {
     if mark {
         let c = occurrences::combined(w, o, ticks, RATIO);
-        write_events(&c, ticks);
+        write_events(&c);
     }
 }
 
@@ -120,7 +126,7 @@ fn write_together(
     let n = waiting_lists::count(waiting);
     if first < n {
         let all = contexts::all_combined(list, waiting, taken, o, ticks, RATIO);
-        write_events(&all, ticks);
+        write_events(&all);
     }
 }
 
@@ -159,7 +165,7 @@ fn work(
     write_made(context, list, waiting, taken, o, ticks);
     let left = waiting_lists::remove_from(list, waiting, removed);
     write(b" leaves");
-    write_waiting(list, left, ticks);
+    write_waiting(list, left);
     write(b"\n");
 }
 
@@ -216,7 +222,7 @@ fn fill() {
     let fewer = waiting_lists::remove_from(&mut list, n, gone);
     write(b"waiting");
     let all = one_more(&mut list, &mut ticks, fewer, 100);
-    write_waiting(&list, all, &ticks);
+    write_waiting(&list, all);
     write(b"\n");
 }
 

@@ -3,12 +3,12 @@ use mathlib.Core.Path.{_≡_, refl, sym, ap, _∙_}
 use mathlib.Core.Bool.{Bool}
 use mathlib.Core.List.{List, [], _∷_, _++_, append-assoc}
 use mathlib.Core.Logic.{⊎-elim}
-use Prim.Native.Nat.{ℕ, zero, suc, min, _+_, _-_, _*_, _/_, _%_, _^_, _≤_, _<_}
+use Prim.Native.Nat.{ℕ, zero, suc, _+_, _-_, _*_, _/_, _%_, _^_, _≤_, _<_}
 use native.Mathlib.Decide.{decLt}
 use native.Mathlib.Nat.{add-zero, div-one, sub-zero}
 use native.Mathlib.Omega.{arith}
 use borrow.Author.Tests.{eq-eqb, ne-eqb}
-use lib.Bits.{bitAnd, and-le-r, and-self, and-step}
+use lib.Bits.{bitAnd}
 use lib.Count.{trailingZeros}
 use lib.ListN.{length, length-append}
 use lib.Pow.{shr-lt, shr-shr}
@@ -20,6 +20,7 @@ use Rattle.sequences.proofs.Select.{filter-nil, filter-yes, filter-no, filter-a
 use Rattle.event_sets.specs.declared.EventSet.{EventSet}
 use Rattle.event_sets.specs.Sets.{elements, has, isSet}
 use Rattle.event_sets.proofs.Members.{has-low, has-high}
+use Rattle.event_sets.proofs.Words.{rest-even, rest-odd}
 use Rattle.forms.specs.Bytes.{bigEndian}
 use Rattle.forms.specs.Forms.{number, each}
 use Rattle.detections.specs.Steps.{bitsFrom}
@@ -56,17 +57,6 @@ elements-bits s =
     rw (range-split 0 64 64, filter-append (has s) (range 0 64) (range 64 64), low, high, div-one (s .low), div-one (s .high))
 
 -- ---- a word without its lowest bit
-rest-odd : (n : ℕ) → n % 2 ≡ 1 → bitAnd n (n - 1) ≡ n / 2 * 2
-rest-odd n o =
-    let h : (n - 1) / 2 ≡ n / 2 = omega arith in
-    let z : (n - 1) % 2 ≡ 0 = omega arith in
-    and-step n (n - 1) ∙ rw (h, z, o, and-self (n / 2)) (omega arith)
-
-rest-even : (n : ℕ) → 0 < n → n % 2 ≡ 0 → bitAnd n (n - 1) ≡ bitAnd (n / 2) (n / 2 - 1) * 2
-rest-even n p e =
-    let h : (n - 1) / 2 ≡ n / 2 - 1 = omega arith in
-    and-step n (n - 1) ∙ rw (h, e) (omega arith)
-
 bits-twice : (d first n : ℕ) → bitsFrom (suc d) first (n * 2) ≡ bitsFrom d (first + 1) n
 bits-twice d first n =
     let h : n * 2 / 2 ≡ n = omega arith in
@@ -81,7 +71,7 @@ bits-next (suc d) first n p h =
       | yes k ↦ let e : n % 2 ≡ 0 = omega arith in
           let m : first + 1 + trailingZeros d (n / 2) ≡ first + suc (trailingZeros d (n / 2)) = omega arith in
           bits-even d first n e ∙ bits-next d (first + 1) (n / 2) (omega arith) (shr-lt d 1 (rw b at h))
-          ∙ rw (rest-even n p e, e, m, bits-twice d first (bitAnd (n / 2) (n / 2 - 1)))
+          ∙ rw (rest-even n e, e, m, bits-twice d first (bitAnd (n / 2) (n / 2 - 1)))
       | no k ↦ let o : n % 2 ≡ 1 = omega arith in
           bits-odd d first n o ∙ rw (rest-odd n o, o, bits-twice d first (n / 2)) (ap (λ k. k ∷ bitsFrom d (first + 1) (n / 2)) (sym (add-zero first)))
     ]
@@ -92,9 +82,6 @@ module _ (first rest : ℕ) where
       → each (number 2) (bitsFrom 64 first rest) ≡ bigEndian 2 (first + trailingZeros 64 rest) ++ each (number 2) (bitsFrom 64 first (bitAnd rest (rest - 1)))
   unfolding each
   bits-turn p h = ap (each (number 2)) (bits-next 64 first rest p h)
-
-pub bits-fewer : (rest : ℕ) → 0 < rest → bitAnd rest (rest - 1) < rest
-bits-fewer rest p = omega (arith, and-le-r rest (rest - 1))
 
 no-bits : (d first : ℕ) → bitsFrom d first 0 ≡ []
 unfolding bitsFrom

@@ -1,5 +1,6 @@
 pub mod Writing
 pub mod Sizes
+pub mod LowestByte
 pub mod Stamps
 pub mod Events
 pub mod Findings

@@ -1,20 +1,20 @@
 -- A finding's bytes: their parts and how many they are.
-use mathlib.Core.Path.{_≡_, refl, sym, _∙_}
+use mathlib.Core.Path.{_≡_, refl, sym, ap, _∙_}
 use mathlib.Core.List.{List, [], _∷_, _++_, append-assoc, append-nil}
-use Prim.Native.Nat.{ℕ, _+_, _*_, _-_, _/_, _%_, _^_, _≤_, _<_}
-use native.Mathlib.Nat.{div-div-eq-div-mul, div-one}
+use Prim.Native.Nat.{ℕ, zero, suc, _+_, _*_, _-_, _/_, _%_, _^_, _≤_, _<_}
+use native.Mathlib.Nat.{div-one}
 use native.Mathlib.Omega.{arith}
-use lib.ListN.{length, set, length-append}
+use lib.ListN.{length, length-append}
 use borrow.Author.Tests.{lt-ltb, le-ltb}
 use Rattle.forms.specs.Bytes.{bigEndian}
 use Rattle.forms.specs.Forms.{number, pair, sectionBytes}
-use Rattle.forms.proofs.Numbers.{length-bigEndian, bigEndian-parts}
+use Rattle.forms.proofs.Numbers.{length-bigEndian}
 use Rattle.forms.proofs.Forms.{Laws, number-laws, pair-laws, via-laws}
 use Rattle.forms.proofs.Prefixes.{length-section}
 use Rattle.detections.specs.Findings.{Finding, toStamp, fromStamp, stamp, findingBytes, findingsBytes}
 use Rattle.detections.specs.Steps.{stampBytes}
 use Rattle.detections.specs.Writing.{Wrote, Beyond}
-use Rattle.detections.proofs.Writing.{put-two, beyond-wrote}
+use Rattle.detections.proofs.Writing.{beyond-wrote, stored, wrote-stored}
 
 pub stamp-laws : Laws stamp
 stamp-laws = via-laws toStamp fromStamp (pair (number 2) (number 8)) (pair-laws (number 2) (number 8) (number-laws 2) (number-laws 8)) (λ a. refl) (λ s. refl)
@@ -23,16 +23,21 @@ stamp-laws = via-laws toStamp fromStamp (pair (number 2) (number 8)) (pair-laws 
 pub length-two : (v : ℕ) → length (bigEndian 2 v) ≡ 2
 length-two v = length-bigEndian 2 v
 
--- two stores write two bytes
-pub wrote-two : (l : List ℕ) (at v : ℕ) → at + 2 ≤ length l → Wrote l at (bigEndian 2 v) (at + 2) (set (set l at (v / 256 % 256)) (at + 1) (v % 256))
-unfolding bigEndian
-wrote-two l at v h = record { next = refl; now = rw div-one (put-two l at (v / 256 % 256) (v % 256) h) }
+-- the bytes of a number as the code takes them, the highest first; the lowest without a shift
+abbrev pub bytesDown : ℕ → ℕ → List ℕ
+bytesDown zero v = v % 256 ∷ []
+bytesDown (suc w) v = v / 256 ^ suc w % 256 ∷ bytesDown w v
 
--- eight bytes are four times two
-pub eight-bytes : (v : ℕ) → bigEndian 8 v ≡ bigEndian 2 (v / 2 ^ 48) ++ bigEndian 2 (v / 2 ^ 32) ++ bigEndian 2 (v / 2 ^ 16) ++ bigEndian 2 v
-eight-bytes v =
-    bigEndian-parts 6 2 v
-    ∙ rw (bigEndian-parts 4 2 (v / 2 ^ 16), bigEndian-parts 2 2 (v / 2 ^ 16 / 2 ^ 16), div-div-eq-div-mul v (2 ^ 16) (2 ^ 16), div-div-eq-div-mul v (2 ^ 32) (2 ^ 16))
+bytes-down : (w v : ℕ) → bytesDown w v ≡ bigEndian (suc w) v
+unfolding bigEndian
+bytes-down zero v = rw div-one
+bytes-down (suc w) v = ap (λ l. v / 256 ^ suc w % 256 ∷ l) (bytes-down w v)
+
+-- one store for each byte
+pub wrote-number : (w : ℕ) (l : List ℕ) (at v : ℕ) → at + suc w ≤ length l → Wrote l at (bigEndian (suc w) v) (at + suc w) (stored l at (bytesDown w v))
+wrote-number w l at v h =
+    let n : length (bytesDown w v) ≡ suc w = ap length (bytes-down w v) ∙ length-bigEndian (suc w) v in
+    rw (← bytes-down w v, ← n) (wrote-stored l at (bytesDown w v) (rw n h))
 
 -- ---- a stamp, if there is one
 module _ (logger w : ℕ) where

@@ -1,12 +1,12 @@
 -- Laws of `Wrote` and `Beyond`.
 use mathlib.Core.Path.{_≡_, refl, sym, ap, _∙_}
 use mathlib.Core.List.{List, [], _∷_, _++_, append-assoc, append-nil}
-use Prim.Native.Nat.{ℕ, _+_, _-_, _≤_}
+use Prim.Native.Nat.{ℕ, suc, _+_, _-_, _≤_}
 use native.Mathlib.Numerals.{add-one}
-use native.Mathlib.Nat.{add-zero, add-assoc}
+use native.Mathlib.Nat.{add-assoc, add-suc, add-zero}
 use native.Mathlib.Omega.{arith}
 use lib.ListN.{length, take, drop, set, length-append, length-take, length-drop, take-append-drop}
-use lib.Seq.{sets-eq, take-append-le, take-at, drop-at, length-take-le, drop-drop}
+use lib.Seq.{sets, sets-eq, take-append-le, take-at, drop-at, length-take-le, drop-drop}
 use Rattle.detections.specs.Writing.{put, Wrote, Beyond}
 
 -- ---- putting
@@ -35,15 +35,28 @@ unfolding put
 length-put l at bs h =
     length-append (take at l ++ bs) _ ∙ omega (arith, length-append (take at l) bs, length-take at l, length-drop (at + length bs) l)
 
--- two stores, one after the other
-pub put-two : (l : List ℕ) (at a b : ℕ) → at + 2 ≤ length l → set (set l at a) (at + 1) b ≡ put l at (a ∷ b ∷ [])
-unfolding put
-put-two l at a b h = rw add-one (sets-eq (a ∷ b ∷ []) l at h)
-
 -- ---- what was written
 -- nothing
 pub wrote-none : (l : List ℕ) (at : ℕ) → Wrote l at [] at l
 wrote-none l at = record { next = sym (add-zero at); now = sym (put-none l at) }
+
+-- byte after byte, one store each, as the code counts their places: at, at + 1, at + 2 ..
+abbrev storedFrom : List ℕ → ℕ → ℕ → List ℕ → List ℕ
+storedFrom l at k [] = l
+storedFrom l at k (b ∷ bs) = storedFrom (set l (at + k) b) at (suc k) bs
+
+abbrev pub stored : List ℕ → ℕ → List ℕ → List ℕ
+stored l at [] = l
+stored l at (b ∷ bs) = storedFrom (set l at b) at 1 bs
+
+stored-sets : (l : List ℕ) (at k : ℕ) (bs : List ℕ) → storedFrom l at k bs ≡ sets l (at + k) bs
+stored-sets l at k [] = refl
+stored-sets l at k (b ∷ bs) = stored-sets (set l (at + k) b) at (suc k) bs ∙ ap (λ n. sets (set l (at + k) b) n bs) (add-suc at k)
+
+pub wrote-stored : (l : List ℕ) (at : ℕ) (bs : List ℕ) → at + length bs ≤ length l → Wrote l at bs (at + length bs) (stored l at bs)
+unfolding put
+wrote-stored l at [] h = record { next = refl; now = sym (put-none l at) }
+wrote-stored l at (b ∷ bs) h = record { next = refl; now = stored-sets (set l at b) at 1 bs ∙ ap (λ n. sets (set l at b) n bs) (add-one at) ∙ sets-eq (b ∷ bs) l at h }
 
 -- one piece, and then another
 pub wrote-then : {l l₁ l₂ bs cs : List ℕ} {at r₁ r₂ : ℕ} → at ≤ length l → Wrote l at bs r₁ l₁ → Wrote l₁ r₁ cs r₂ l₂ → Wrote l at (bs ++ cs) r₂ l₂

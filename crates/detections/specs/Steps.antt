@@ -1,7 +1,8 @@
 -- What the functions compute step by step. Readers of the promises need none of these.
 use Prim.Native.Nat.{ℕ, zero, suc, _+_, _-_, _/_, _%_}
-use mathlib.Core.List.{List, [], _∷_}
+use mathlib.Core.List.{List, [], _∷_, _++_}
 use lib.Dec.{eqb, ltb}
+use lib.ListN.{getD}
 use Rattle.sequences.specs.Choice.{pick}
 use Rattle.detections.specs.Findings.{stamp}
 
@@ -13,6 +14,11 @@ oneIf w = pick (ltb 0 w) 1 0
 -- its bytes, under the number of its logger
 unfoldable pub stampBytes : ℕ → ℕ → List ℕ
 stampBytes logger w = pick (ltb 0 w) (stamp .bytes (record { logger = logger; tick = record { 0 = w - 1 } })) []
+
+-- ---- a packed number: the bytes of the stamps that its lowest d bytes name, of which the lowest is that of logger place k
+unfoldable pub namedBytes : List ℕ → List ℕ → ℕ → ℕ → ℕ → List ℕ
+namedBytes ticks loggers zero k n = []
+namedBytes ticks loggers (suc d) k n = stampBytes (getD loggers k 0) (getD ticks (n % 256) 0) ++ namedBytes ticks loggers d (k + 1) (n / 256)
 
 -- ---- a word of events: the numbers of the bits that are set in its lowest d, of which the lowest has the number `first`
 unfoldable pub bitsFrom : ℕ → ℕ → ℕ → List ℕ

@@ -3,9 +3,9 @@ use event_sets::EventSet;
 use timestamps::LocalTick;
 ghost use mathlib.Core.Path.{_≡_};
 ghost use mathlib.Core.List.{List, map};
-ghost use Prim.Native.Nat.{ℕ, _+_, _≤_};
+ghost use Prim.Native.Nat.{ℕ, _+_, _≤_, _<_};
 ghost use lib.Dec.{leb};
-ghost use lib.ListN.{length};
+ghost use lib.ListN.{getD, length};
 ghost use Rattle.forms.specs.Bytes.{bigEndian};
 ghost use Rattle.forms.specs.Forms.{number, each, sectionBytes};
 ghost use Rattle.timestamps.specs.Composite.{members};
@@ -14,7 +14,7 @@ ghost use Rattle.occurrences.specs.Packed.{occurrenceOf};
 ghost use Rattle.detections.specs.Findings.{Finding, stamp, findingBytes};
 ghost use Rattle.detections.specs.Views.{written, findingOf};
 ghost use Rattle.detections.specs.Writing.{Wrote};
-ghost use Rattle.detections.specs.Steps.{bitsFrom, oneIf, stampBytes};
+ghost use Rattle.detections.specs.Steps.{bitsFrom, namedBytes, oneIf, stampBytes};
 
 // A stamp as it is written: the number of its logger, and its local tick.
 pub struct Stamp {
@@ -90,23 +90,51 @@ fn put_u64(out: &mut [u8], at: usize, v: u64) -> usize
     requires { ⌜ at + 8 ≤ length (now out) ⌝ }
     ensures { λ r. ⌜ Wrote (now (out .entry)) at (bigEndian 8 v) r (now (out .exit)) ⌝ }
 {
-    let a = put_u16(out, at, v >> 48);
-    let b = put_u16(out, a, v >> 32);
-    let c = put_u16(out, b, v >> 16);
-    put_u16(out, c, v)
+    out[at] = ((v >> 56) % 256) as u8;
+    out[at + 1] = ((v >> 48) % 256) as u8;
+    out[at + 2] = ((v >> 40) % 256) as u8;
+    out[at + 3] = ((v >> 32) % 256) as u8;
+    out[at + 4] = ((v >> 24) % 256) as u8;
+    out[at + 5] = ((v >> 16) % 256) as u8;
+    out[at + 6] = ((v >> 8) % 256) as u8;
+    out[at + 7] = (v % 256) as u8;
+    at + 8
 }
 
-// A stamp, if there is one: w is its tick plus one, or 0.
-fn put_stamp(out: &mut [u8], at: usize, logger: u64, w: u64) -> usize
-    requires { ⌜ at + length (stampBytes logger w) ≤ length (now out) ⌝ }
-    ensures { λ r. ⌜ Wrote (now (out .entry)) at (stampBytes logger w) r (now (out .exit)) ⌝ }
+// The stamp of an event, where the table has its tick. The tick is read when the logger is written: then each is one store.
+fn put_stamp(out: &mut [u8], at: usize, logger: u64, event: usize, ticks: &[u64; 256]) -> usize
+    requires { ⌜ (event < 256) × (at + length (stampBytes logger (getD (now ticks) event 0)) ≤ length (now out)) ⌝ }
+    ensures { λ r. ⌜ Wrote (now (out .entry)) at (stampBytes logger (getD (now (ticks .entry)) event 0)) r (now (out .exit)) ⌝ }
 {
-    if 0 < w {
+    if 0 < ticks[event] {
         let a = put_u16(out, at, logger);
-        put_u64(out, a, w - 1)
+        put_u64(out, a, ticks[event] - 1)
     } else {
         at
     }
+}
+
+// The stamps of the events that the bytes of a packed number name, from the lowest byte on.
+fn put_named(
+    out: &mut [u8],
+    at: usize,
+    packed: u64,
+    ticks: &[u64; 256],
+    loggers: &[u64; 8],
+) -> usize
+    requires { ⌜ (getD (now ticks) 0 0 ≡ 0) × (at + length (namedBytes (now ticks) (now loggers) 8 0 packed) ≤ length (now out)) ⌝ }
+    ensures { λ r. ⌜ Wrote (now (out .entry)) at (namedBytes (now (ticks .entry)) (now (loggers .entry)) 8 0 packed) r (now (out .exit)) ⌝ }
+{
+    let mut to = at;
+    let mut rest = packed;
+    while 0 < rest {
+        let k = (u64::trailing_zeros(rest) / 8) as usize;
+        let event = (rest >> (8 * k)) % 256;
+        to = put_stamp(out, to, loggers[k], event as usize, ticks);
+        // Without that byte.
+        rest = rest - (event << (8 * k));
+    }
+    to
 }
 
 // The stamps, by rising logger.
@@ -117,16 +145,10 @@ fn put_stamps(
     ticks: &[u64; 256],
     loggers: &[u64; 8],
 ) -> usize
-    requires { ⌜ at + length (each stamp (map (written (now loggers)) (members (occurrenceOf (now ticks) (now o) .latest)))) ≤ length (now out) ⌝ }
+    requires { ⌜ (getD (now ticks) 0 0 ≡ 0) × (at + length (each stamp (map (written (now loggers)) (members (occurrenceOf (now ticks) (now o) .latest)))) ≤ length (now out)) ⌝ }
     ensures { λ r. ⌜ Wrote (now (out .entry)) at (each stamp (map (written (now (loggers .entry))) (members (occurrenceOf (now (ticks .entry)) (now (o .entry)) .latest)))) r (now (out .exit)) ⌝ }
 {
-    let mut to = at;
-    let mut k: usize = 0;
-    while k < 8 {
-        to = put_stamp(out, to, loggers[k], occurrences::word_at(o, ticks, k));
-        k = k + 1;
-    }
-    to
+    put_named(out, at, o[2], ticks, loggers)
 }
 
 // The stamps after their count; ten bytes are one.
@@ -137,7 +159,7 @@ fn put_stamp_section(
     ticks: &[u64; 256],
     loggers: &[u64; 8],
 ) -> usize
-    requires { ⌜ at + length (sectionBytes stamp (map (written (now loggers)) (members (occurrenceOf (now ticks) (now o) .latest)))) ≤ length (now out) ⌝ }
+    requires { ⌜ (getD (now ticks) 0 0 ≡ 0) × (at + length (sectionBytes stamp (map (written (now loggers)) (members (occurrenceOf (now ticks) (now o) .latest)))) ≤ length (now out)) ⌝ }
     ensures { λ r. ⌜ Wrote (now (out .entry)) at (sectionBytes stamp (map (written (now (loggers .entry))) (members (occurrenceOf (now (ticks .entry)) (now (o .entry)) .latest)))) r (now (out .exit)) ⌝ }
 {
     let from = at + 2;
@@ -190,7 +212,7 @@ pub fn write(
     ticks: &[u64; 256],
     loggers: &[u64; 8],
 ) -> usize
-    requires { ⌜ at + length (findingBytes (findingOf (now loggers) node (occurrenceOf (now ticks) (now o) .latest) (occurrenceOf (now ticks) (now o) .events))) ≤ length (now out) ⌝ }
+    requires { ⌜ (getD (now ticks) 0 0 ≡ 0) × (at + length (findingBytes (findingOf (now loggers) node (occurrenceOf (now ticks) (now o) .latest) (occurrenceOf (now ticks) (now o) .events))) ≤ length (now out)) ⌝ }
     ensures { λ r. ⌜ Wrote (now (out .entry)) at (findingBytes (findingOf (now (loggers .entry)) node (occurrenceOf (now (ticks .entry)) (now (o .entry)) .latest) (occurrenceOf (now (ticks .entry)) (now (o .entry)) .events))) r (now (out .exit)) ⌝ }
 {
     let numbers = EventSet {

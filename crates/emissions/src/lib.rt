@@ -1,7 +1,7 @@
 // What a node makes from one event: findings to the output and to later nodes, until a limit ends the work.
 ghost use mathlib.Core.Path.{_≡_};
 ghost use Prim.Native.Nat.{_≤_};
-ghost use lib.ListN.{length};
+ghost use lib.ListN.{getD, length};
 ghost use Rattle.detections.specs.Writing.{Beyond};
 ghost use Rattle.occurrences.specs.Packed.{occurrenceOf};
 ghost use Rattle.emissions.specs.Emissions.{emitOf, emitted, numberOf, reached};
@@ -63,7 +63,7 @@ pub fn emit_one(
     loggers: &[u64; 8],
     out: &mut [u8],
 ) -> Emit
-    requires { ⌜ (e .at ≤ length (now out)) × (e .findings ≤ e .at) ⌝ }
+    requires { ⌜ (getD (now ticks) 0 0 ≡ 0) × (e .at ≤ length (now out)) × (e .findings ≤ e .at) ⌝ }
     ensures { λ r. ⌜ (emitOf (now (ticks .entry)) r (now (made .exit)) (now (out .exit)) ≡ emitted (length (now (out .entry))) (now (loggers .entry)) place (emitOf (now (ticks .entry)) e (now (made .entry)) (now (out .entry))) (occurrenceOf (now (ticks .entry)) (now (o .entry)))) × Beyond (now (out .entry)) (now (out .exit)) (e .at) (r .findings) (r .at) ⌝ }
 {
     let limit = e.limit;

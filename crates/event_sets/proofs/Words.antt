@@ -8,7 +8,7 @@ use native.Mathlib.Nat.{div-eq-of-lt, one-mul}
 use native.Mathlib.Omega.{arith}
 use borrow.Author.Tests.{eq-eqb, ne-eqb, eqb-true, eqb-false}
 use lib.Arith.{half-le}
-use lib.Bits.{bitOr, or-comm, or-shr, or-step, or-zero-l}
+use lib.Bits.{and-le-r, and-self, and-step, bitAnd, bitOr, or-comm, or-shr, or-step, or-zero-l}
 use lib.Dec.{eqb, lit<}
 use lib.Pow.{pow-add, pow-lt, shl-exact, shl-shr, shr-shr, shr-lt}
 use Rattle.sequences.proofs.Booleans.{either-way}
@@ -74,6 +74,22 @@ set-power i j =
             set-one (2 ^ i) j (rw e (bit-same j)) ∙ sym (eq-eqb j i (sym e))
       ]
     ]
+
+-- ---- a word without its lowest bit
+
+pub rest-odd : (n : ℕ) → n % 2 ≡ 1 → bitAnd n (n - 1) ≡ n / 2 * 2
+rest-odd n o =
+    let h : (n - 1) / 2 ≡ n / 2 = omega arith in
+    let z : (n - 1) % 2 ≡ 0 = omega arith in
+    and-step n (n - 1) ∙ rw (h, z, o, and-self (n / 2)) (omega arith)
+
+pub rest-even : (n : ℕ) → n % 2 ≡ 0 → bitAnd n (n - 1) ≡ bitAnd (n / 2) (n / 2 - 1) * 2
+rest-even n e =
+    let h : (n - 1) / 2 ≡ n / 2 - 1 = omega arith in
+    and-step n (n - 1) ∙ rw (h, e) (omega arith)
+
+pub rest-less : (n : ℕ) → 0 < n → bitAnd n (n - 1) < n
+rest-less n p = omega (arith, and-le-r n (n - 1))
 
 -- ---- the union of two words
 

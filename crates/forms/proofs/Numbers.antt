@@ -4,7 +4,7 @@ use mathlib.Core.List.{List, [], _∷_, _++_}
 use Prim.Native.Nat.{ℕ, zero, suc, _+_, _-_, _*_, _/_, _%_, _^_, _≤_, _<_}
 use native.Mathlib.Numerals.{add-one}
 use native.Mathlib.Omega.{arith}
-use native.Mathlib.Nat.{mod-one, mul-comm, add-comm, zero-add, suc-add, div-div-eq-div-mul, pow-suc, pow-le-pow-right, mod-lt, mod-eq-of-lt, div-eq-of-lt, mul-add-div-right, mul-add-mod-self-right, mul-le-mul-right, add-zero, mul-assoc, add-mul}
+use native.Mathlib.Nat.{mod-one, mul-comm, pow-suc, pow-le-pow-right, mod-lt, mod-eq-of-lt, div-eq-of-lt, mul-add-div-right, mul-add-mod-self-right, mul-le-mul-right, add-zero, mul-assoc, add-mul}
 use lib.ListN.{length, getD, take, drop, length-append, length-drop}
 use lib.Seq.{length-take-le, take-add, drop-drop, getD-drop, drop-cons}
 use lib.Dec.{lit<}
@@ -66,12 +66,6 @@ unfolding bigEndian
 bytes-bigEndian zero v i = lit< tt
 bytes-bigEndian (suc w) v zero = mod-lt (v / 256 ^ w) (lit< tt)
 bytes-bigEndian (suc w) v (suc i) = bytes-bigEndian w v i
-
--- the bytes of two parts
-pub bigEndian-parts : (m n v : ℕ) → bigEndian (m + n) v ≡ bigEndian m (v / 256 ^ n) ++ bigEndian n v
-unfolding bigEndian
-bigEndian-parts zero n v = rw (zero-add n)
-bigEndian-parts (suc m) n v = rw (suc-add m n, add-comm m n, pow-add 256 n m, ← div-div-eq-div-mul v (256 ^ n) (256 ^ m), add-comm n m, bigEndian-parts m n v)
 
 -- the value of two parts
 pub value-append : (a c : List ℕ) → valueOf (a ++ c) ≡ valueOf a * 256 ^ length c + valueOf c

@@ -1,18 +1,15 @@
 -- How the work ends, from what the readers and the run ensure.
 use mathlib.Core.Bool.{true, false}
 use mathlib.Core.List.{List}
-use mathlib.Core.Path.{_≡_, refl, ap, subst, _∙_}
+use mathlib.Core.Path.{_≡_, refl, sym, ap, subst, _∙_}
 use Prim.Native.Nat.{ℕ}
 use lib.Dec.{eqb}
 use Rattle.sequences.specs.Choice.{pick}
 use Rattle.plans.specs.Layout.{Plan}
-use Rattle.plans.specs.Faults.{numberOf as planNumber}
-use Rattle.plans.specs.Reader.{PlanAnswer, readPlan}
-use Rattle.plans.specs.Views.{answerOf, planOf}
-use Rattle.plans.specs.declared.PlanRead.{PlanRead}
+use Rattle.plans.specs.Reader.{PlanAnswer}
 use Rattle.passages.specs.Events.{passageEvents}
 use Rattle.passages.specs.Faults.{numberOf as passageNumber}
-use Rattle.passages.specs.Reader.{PassageAnswer, readPassage}
+use Rattle.passages.specs.Reader.{readPassage}
 use Rattle.passages.specs.Views.{Checked, Noted, checkOf, counted, heldEvents}
 use Rattle.passages.specs.declared.Event.{Event}
 use Rattle.passages.specs.declared.PassageCheck.{PassageCheck}
@@ -21,30 +18,25 @@ use Rattle.progress.specs.Progress.{Progress, runOf}
 use Rattle.detector.specs.Steps.{Ran, Says}
 use Rattle.detector.specs.declared.Run.{Run}
 use Rattle.gateway.specs.declared.Answer.{Answer}
-use Rattle.gateway.specs.Working.{Answers, endOf, passageWorked, planWorked, turnedBack, worked}
+use Rattle.gateway.specs.Working.{Answers, Work, endOf, planWorked, turnedBack}
 
-module _ (plan passage : List ℕ) (room : ℕ) (r : PlanRead) (read : answerOf r ≡ readPlan plan) where
-  pub plan-refused : eqb (planNumber (r .fault)) 0 ≡ false → worked plan passage room ≡ turnedBack (planNumber (r .fault)) (r .place)
-  unfolding worked
-  plan-refused e = rw (← read, e)
+-- under what reading the plan answers
+module _ (room : ℕ) (passage : List ℕ) (a : PlanAnswer) where
+  pub plan-refused : eqb (a .number) 0 ≡ false → planWorked room passage a ≡ turnedBack (a .number) (a .place)
+  plan-refused e = rw e
 
-  plan-accepted : eqb (planNumber (r .fault)) 0 ≡ true
-      → worked plan passage room ≡ passageWorked room (planOf (r .plan)) passage (readPassage (planOf (r .plan)) passage)
-  unfolding worked
-  plan-accepted e = rw (← read, e)
-
-  module _ (accepted : eqb (planNumber (r .fault)) 0 ≡ true) (c : PassageCheck) (checked : checkOf c ≡ counted (readPassage (planOf (r .plan)) passage)) where
-    same-number : passageNumber (c .fault) ≡ readPassage (planOf (r .plan)) passage .number
+  module _ (accepted : eqb (a .number) 0 ≡ true) (c : PassageCheck) (checked : checkOf c ≡ counted (readPassage (a .plan) passage)) where
+    same-number : passageNumber (c .fault) ≡ readPassage (a .plan) passage .number
     same-number = ap (λ (x : Checked). x .number) checked
 
-    same-place : c .place ≡ readPassage (planOf (r .plan)) passage .place
+    same-place : c .place ≡ readPassage (a .plan) passage .place
     same-place = ap (λ (x : Checked). x .place) checked
 
-    pub passage-refused : eqb (passageNumber (c .fault)) 0 ≡ false → worked plan passage room ≡ turnedBack (passageNumber (c .fault)) (c .place)
-    passage-refused e = plan-accepted accepted ∙ rw (← same-number, ← same-place, e)
+    pub passage-refused : eqb (passageNumber (c .fault)) 0 ≡ false → planWorked room passage a ≡ turnedBack (passageNumber (c .fault)) (c .place)
+    passage-refused e = rw (accepted, ← same-number, ← same-place, e)
 
-    pub both-accepted : eqb (passageNumber (c .fault)) 0 ≡ true → worked plan passage room ≡ endOf (runOf room (planOf (r .plan)) (passageEvents (planOf (r .plan)) passage))
-    both-accepted e = plan-accepted accepted ∙ rw (← same-number, e)
+    pub both-accepted : eqb (passageNumber (c .fault)) 0 ≡ true → planWorked room passage a ≡ endOf (runOf room (a .plan) (passageEvents (a .plan) passage))
+    both-accepted e = rw (accepted, ← same-number, e)
 
 -- the events that the check notes: they are noted as themselves, and the run over them is the passage's
 module _ (events : List Event) (count : ℕ) (kinds loggers ticks : List ℕ) (noted : Noted events count kinds loggers ticks) where
@@ -64,3 +56,6 @@ run-answers p out r out′ place s k = record {
   bytes = s .bytes;
   written = s .written;
 }
+
+pub answers-same : (v w : Work) (out : List ℕ) (r : Answer) (out′ : List ℕ) → v ≡ w → Answers w out r out′ → Answers v out r out′
+answers-same v w out r out′ e a = subst (λ (x : Work). Answers x out r out′) (sym e) a

@@ -1,12 +1,15 @@
 // File working: a passage under a plan, both from their bytes, into a lent output.
 ghost use mathlib.Core.List.{List};
 ghost use mathlib.Core.Path.{_≡_};
-ghost use Prim.Native.Nat.{ℕ};
+ghost use Prim.Native.Nat.{ℕ, _≤_};
 ghost use lib.ListN.{length, take};
 ghost use Rattle.sequences.specs.Choice.{pick};
+ghost use Rattle.plans.specs.Views.{answerOf};
 ghost use Rattle.emissions.specs.Emissions.{reached};
+ghost use Rattle.progress.specs.Progress.{Progress};
+ghost use Rattle.detector.specs.Steps.{Says};
 ghost use Rattle.gateway.specs.Latest.{LatestExact};
-ghost use Rattle.gateway.specs.Working.{Answers, turnedBack, worked};
+ghost use Rattle.gateway.specs.Working.{Answers, endOf, planWorked, turnedBack, worked};
 
 // 0, or the number of the fault or limit; its place; the findings, and the bytes they take.
 #[repr(C)]
@@ -36,26 +39,10 @@ fn place_of(number: u64, event: usize) -> u64
     if 0 < number { event as u64 } else { 0 }
 }
 
-// Both files are checked whole, the plan first; then the passage's events are worked.
-pub fn work(plan: &[u8], passage: &[u8], output: &mut [u8]) -> Answer
-    ensures answers { λ r. ⌜ Answers (worked (now (plan .entry)) (now (passage .entry)) (length (now (output .entry)))) (now (output .entry)) r (now (output .exit)) ⌝ }
-    ensures latest { λ r. ⌜ LatestExact (now (plan .entry)) (now (passage .entry)) (r .findings) (take (r .bytes) (now (output .exit))) ⌝ }
+// The answer on a run.
+fn ended(run: detector::Run) -> Answer
+    ensures { λ r. ⌜ ((p : Progress) (out out′ : List ℕ) → Says p out run out′ → Answers (endOf p) out r out′) ⌝ }
 {
-    let read = plans::read_plan(plan);
-    let plan_fault = read.fault;
-    if !plan_fault.is_none() {
-        return turned_back(plan_fault.number(), read.place);
-    }
-    let accepted = read.plan;
-    let mut kinds = [0u8; 128];
-    let mut loggers = [0u8; 128];
-    let mut ticks = [0u64; 256];
-    let check = passages::check_passage(accepted, passage, &mut kinds, &mut loggers, &mut ticks);
-    let passage_fault = check.fault;
-    if !passage_fault.is_none() {
-        return turned_back(passage_fault.number(), check.place);
-    }
-    let run = detector::run_events(accepted, check.count, &kinds, &loggers, &ticks, output);
     let number = run.limit;
     Answer {
         number: number,
@@ -63,4 +50,66 @@ pub fn work(plan: &[u8], passage: &[u8], output: &mut [u8]) -> Answer
         findings: run.findings,
         bytes: run.bytes as u64,
     }
+}
+
+// Under the plan that was read, or its fault: the passage is checked whole, then its events are worked.
+fn work_under(
+    read: plans::PlanRead,
+    loggers: &[u16; 8],
+    kinds: &[u16; 32],
+    nodes: &[[u16; 4]; 16],
+    passage: &[u8],
+    output: &mut [u8],
+) -> Answer
+    requires { ⌜ (read .«logger_count» ≤ 8) × (read .«kind_count» ≤ 32) ⌝ }
+    ensures { λ r. ⌜ Answers (planWorked (length (now (output .entry))) (now (passage .entry)) (answerOf read (now (loggers .entry)) (now (kinds .entry)) (now (nodes .entry)))) (now (output .entry)) r (now (output .exit)) ⌝ }
+{
+    let plan_fault = read.fault;
+    if !plan_fault.is_none() {
+        return turned_back(plan_fault.number(), read.place);
+    }
+    let kind_numbers = &kinds[..];
+    let logger_numbers = &loggers[..];
+    let k = read.kind_count;
+    let l = read.logger_count;
+    let mut kind_places = [0u8; 128];
+    let mut logger_places = [0u8; 128];
+    let mut ticks = [0u64; 256];
+    let check = passages::check_passage(
+        &kind_numbers[..k],
+        &logger_numbers[..l],
+        passage,
+        &mut kind_places,
+        &mut logger_places,
+        &mut ticks,
+    );
+    let passage_fault = check.fault;
+    if !passage_fault.is_none() {
+        return turned_back(passage_fault.number(), check.place);
+    }
+    let run = detector::run_events(
+        read.ratio,
+        loggers,
+        l,
+        nodes,
+        read.node_count,
+        check.count,
+        &kind_places,
+        &logger_places,
+        &ticks,
+        output,
+    );
+    ended(run)
+}
+
+// Both files are checked whole, the plan first; then the passage's events are worked.
+pub fn work(plan: &[u8], passage: &[u8], output: &mut [u8]) -> Answer
+    ensures answers { λ r. ⌜ Answers (worked (now (plan .entry)) (now (passage .entry)) (length (now (output .entry)))) (now (output .entry)) r (now (output .exit)) ⌝ }
+    ensures latest { λ r. ⌜ LatestExact (now (plan .entry)) (now (passage .entry)) (r .findings) (take (r .bytes) (now (output .exit))) ⌝ }
+{
+    let mut loggers = [0u16; 8];
+    let mut kinds = [0u16; 32];
+    let mut nodes = [[0u16; 4]; 16];
+    let read = plans::read_plan(plan, &mut loggers, &mut kinds, &mut nodes);
+    work_under(read, &loggers, &kinds, &nodes, passage, output)
 }

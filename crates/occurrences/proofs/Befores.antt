@@ -67,6 +67,16 @@ module _ (ratio low v w : ℕ) where
     ]
   ]
 
+  later-clear : clearOf ratio low w ≡ true → laterOf ratio low v w ≡ true
+  unfolding laterOf
+  later-clear h = elim (ℕ-discrete w 0) [
+    | yes e ↦ rw (eq-eqb w 0 e)
+    | no n ↦ elim (either-way (ownBefore v w)) [
+      | inl y ↦ rw (ne-eqb w 0 n, y)
+      | inr z ↦ rw (ne-eqb w 0 n, z) h
+    ]
+  ]
+
 -- ---- a timestamp t has one of a's before it exactly where its word is later
 module _ (ratio : ℕ) (a : List ℕ) (low : ℕ) (least : Lowest 8 (wordAt a) low) (t : Timestamp) (small : t .logger < 8) where
   abbrev isLater : Bool
@@ -129,3 +139,25 @@ module _ (ratio : ℕ) (a b : List ℕ) (low : ℕ) (least : Lowest 8 (wordAt a)
             never-both (rw g at o) h)
         | no l ↦ never-both (later-is ratio low (wordAt a k) (wordAt b k) (none (omega arith))) h
       ])
+
+  -- ---- what the lowest of the second decides
+  module _ (first : ℕ) (lowest-b : Lowest 8 (wordAt b) first) where
+    -- none of the first one's is before it
+    pub first-not-later : 0 < first → first ≤ low → isBefore ratio (fromWords a) (fromWords b) ≡ false
+    first-not-later p h = let (k, l, e) = lowest-b .some p in
+        one-not-later k l (false-of-not-true _ (λ y. not-later k l e (later-says ratio low (wordAt a k) (wordAt b k) y)))
+      where
+        not-later : (k : ℕ) → k < 8 → wordAt b k ≡ first → Later ratio low (wordAt a k) (wordAt b k) → ⊥
+        not-later k l e (none z) = omega arith
+        not-later k l e (own q v) = let (u, g) = least .least k l q in omega arith
+        not-later k l e (lowest q f) =
+            let g = floor-clear ratio low (wordAt b k) q f in
+            let d = quotient-le ratio (wordAt b k - 1) (low - 1) (omega arith) in
+            omega arith
+
+    -- the lowest of the first is clearly earlier than all from it on
+    pub first-clear : ((v : ℕ) → first ≤ v → clearOf ratio low v ≡ true) → isBefore ratio (fromWords a) (fromWords b) ≡ true
+    first-clear h = all-later (λ k l. elim (decLt 0 (wordAt b k)) [
+      | yes p ↦ later-clear ratio low (wordAt a k) (wordAt b k) (h (wordAt b k) (lowest-b .least k l p .1))
+      | no p ↦ later-is ratio low (wordAt a k) (wordAt b k) (none (omega arith))
+    ])

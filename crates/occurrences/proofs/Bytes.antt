@@ -1,20 +1,20 @@
 -- A word made byte by byte, and the ten words of a packed occurrence by its bytes.
 use mathlib.Core.List.{List}
-use mathlib.Core.Path.{_≡_, refl, sym, ap, subst, _∙_}
-use Prim.Native.Nat.{ℕ, suc, _+_, _-_, _*_, _/_, _%_, _^_, _<_}
+use mathlib.Core.Path.{_≡_, refl, sym, ap, ap₂, subst, _∙_}
+use Prim.Native.Nat.{ℕ, suc, max, _+_, _-_, _*_, _/_, _%_, _^_, _≤_, _<_}
 use native.Mathlib.Decide.{decLt}
 use native.Mathlib.Nat.{div-eq-of-lt, lt-of-lt-of-le}
 use native.Mathlib.Omega.{arith}
-use lib.Bits.{bitOr, or-lt, or-shifted-r, or-zero-l}
+use lib.Bits.{and-le-l, and-le-r, bitOr, or-add-and, or-lt, or-shifted-r, or-shr, or-zero-l}
 use lib.ListN.{getD, length, length-map}
-use lib.Pow.{field, high, low, mod-mod-pow, pow-lt, pow-mono, pow-pos, shl-exact, shl-lt}
+use lib.Pow.{field, high, low, mod-mod-pow, pow-mono, pow-pos, shl-exact, shl-lt, shr-shr}
 use lib.Seq.{getD-drop}
 use Rattle.sequences.proofs.Range.{length-range}
 use Rattle.timestamps.specs.Composite.{loggerPlaces}
 use Rattle.timestamps.proofs.Composite.{at-place}
 use Rattle.occurrences.specs.Packed.{byteAt, wordsOf}
-use Rattle.occurrences.specs.Steps.{tickAt}
-use Rattle.occurrences.proofs.Steps.{next-place}
+use Rattle.occurrences.specs.Steps.{Lower, Lowest, LowestOf, Named, laterAt, tickAt}
+use Rattle.occurrences.proofs.Steps.{lowest-both, lowest-none, lowest-same, more-places}
 
 byte-is : (w k : ℕ) → w / 2 ^ (8 * k) % 256 ≡ byteAt w k
 unfolding byteAt
@@ -31,19 +31,25 @@ byte-field w k = sym (byte-is w k) ∙ sym (field w 8 (8 * k))
 pub byte-beyond : (w k : ℕ) → w < 2 ^ (8 * k) → byteAt w k ≡ 0
 byte-beyond w k h = sym (byte-is w k) ∙ rw (div-eq-of-lt h)
 
--- what the code's shift to a place is
-shifted : (n k : ℕ) → n < 256 → k < 8 → n * 2 ^ (8 * k) % 2 ^ 64 ≡ n * 2 ^ (8 * k)
-shifted n k s h = shl-exact 8 (8 * k) 64 s (omega arith)
+-- the bytes from place k on
+byte-further : (w k j : ℕ) → byteAt (w / 2 ^ (8 * k)) j ≡ byteAt w (k + j)
+byte-further w k j =
+    let e : 8 * k + 8 * j ≡ 8 * (k + j) = omega arith in
+    sym (byte-is (w / 2 ^ (8 * k)) j) ∙ ap (λ x. x % 256) (shr-shr w (8 * k) (8 * j)) ∙ ap (λ n. w / 2 ^ n % 256) e ∙ byte-is w (k + j)
 
--- ---- one byte more
-module _ (n k r : ℕ) (h : r < 2 ^ (8 * k)) (s : n < 256) where
+byte-none : (w k j : ℕ) → w / 2 ^ (8 * k) ≡ 0 → byteAt w (k + j) ≡ 0
+byte-none w k j h = sym (byte-further w k j) ∙ ap (λ x. byteAt x j) h ∙ byte-beyond 0 j (pow-pos (8 * j))
+
+byte-whole : (n : ℕ) → n < 256 → byteAt n 0 ≡ n
+byte-whole n s = sym (byte-is n 0) ∙ omega arith
+
+-- ---- n beside r, which has k bytes
+module _ (n k r : ℕ) (h : r < 2 ^ (8 * k)) where
   joined : bitOr r (n * 2 ^ (8 * k)) ≡ n * 2 ^ (8 * k) + r
   joined = or-shifted-r n (8 * k) r h
 
-  byte-top : byteAt (bitOr r (n * 2 ^ (8 * k))) k ≡ n
-  byte-top =
-      let e : (n * 2 ^ (8 * k) + r) / 2 ^ (8 * k) ≡ n = high n (8 * k) h in
-      ap (λ w. byteAt w k) joined ∙ sym (byte-is (n * 2 ^ (8 * k) + r) k) ∙ ap (λ w. w % 256) e ∙ omega arith
+  byte-above : (j : ℕ) → byteAt (bitOr r (n * 2 ^ (8 * k))) (k + j) ≡ byteAt n j
+  byte-above j = sym (byte-further (bitOr r (n * 2 ^ (8 * k))) k j) ∙ ap (λ w. byteAt w j) (ap (λ w. w / 2 ^ (8 * k)) joined ∙ high n (8 * k) h)
 
   below-mod : (j : ℕ) → j < k → (n * 2 ^ (8 * k) + r) % 2 ^ (8 + 8 * j) ≡ r % 2 ^ (8 + 8 * j)
   below-mod j l =
@@ -56,42 +62,72 @@ module _ (n k r : ℕ) (h : r < 2 ^ (8 * k)) (s : n < 256) where
   byte-below j l =
       ap (λ w. byteAt w j) joined ∙ byte-field (n * 2 ^ (8 * k) + r) j ∙ ap (λ m. m / 2 ^ (8 * j)) (below-mod j l) ∙ sym (byte-field r j)
 
-  byte-size : bitOr r (n * 2 ^ (8 * k)) < 2 ^ (8 * (k + 1))
-  byte-size =
-      let a : 8 + 8 * k ≡ 8 * (k + 1) = omega arith in
-      let p : 2 ^ (8 * k) < 2 ^ (8 + 8 * k) = pow-lt (omega arith) in
-      let q : n * 2 ^ (8 * k) < 2 ^ (8 + 8 * k) = shl-lt 8 (8 * k) s in
-      subst (λ m. bitOr r (n * 2 ^ (8 * k)) < 2 ^ m) a (or-lt (8 + 8 * k) r (n * 2 ^ (8 * k)) (omega arith) q)
+  bytes-size : (m : ℕ) → n < 2 ^ (8 * m) → bitOr r (n * 2 ^ (8 * k)) < 2 ^ (8 * (k + m))
+  bytes-size m s =
+      let a : 8 * m + 8 * k ≡ 8 * (k + m) = omega arith in
+      let p : 2 ^ (8 * k) ≤ 2 ^ (8 * m + 8 * k) = pow-mono (omega arith) in
+      let q : n * 2 ^ (8 * k) < 2 ^ (8 * m + 8 * k) = shl-lt (8 * m) (8 * k) s in
+      subst (λ x. bitOr r (n * 2 ^ (8 * k)) < 2 ^ x) a (or-lt (8 * m + 8 * k) r (n * 2 ^ (8 * k)) (omega arith) q)
 
--- a word of which the first k bytes are made, P of each
-pub record Made (P : ℕ → ℕ → Type 0) (k r : ℕ) : Type 0 where
-  pub size : r < 2 ^ (8 * k)
-  pub bytes : (j : ℕ) → j < k → P j (byteAt r j)
+-- ---- words that are named
+module _ (ticks : List ℕ) where
+  pub named-start : (f : ℕ → ℕ) → Named ticks 0 f 0
+  named-start f = record { size = omega arith; words = λ j l. absurd (omega (arith, l)) }
 
-module _ (P : ℕ → ℕ → Type 0) where
-  pub made-start : Made P 0 0
-  made-start = record { size = omega arith; bytes = λ j l. absurd (omega (arith, l)) }
-
-  pub made-turn : (k n r : ℕ) → k < 8 → n < 256 → P k n → Made P k r → Made P (k + 1) (bitOr r (n * 2 ^ (8 * k) % 2 ^ 64))
-  made-turn k n r h s p m = subst (λ v. Made P (k + 1) (bitOr r v)) (sym (shifted n k s h)) (record {
-    size = byte-size n k r (m .size) s;
-    bytes = next-place (λ j. P j (byteAt (bitOr r (n * 2 ^ (8 * k))) j)) k
-        (λ j l. subst (P j) (sym (byte-below n k r (m .size) s j l)) (m .bytes j l))
-        (subst (P k) (sym (byte-top n k r (m .size) s)) p);
+  -- the next m places beside the first k
+  pub named-more : (k m : ℕ) (f g : ℕ → ℕ) (r n : ℕ) → k + m ≤ 8 → ((j : ℕ) → j < m → g j ≡ f (k + j)) → Named ticks k f r → Named ticks m g n
+      → Named ticks (k + m) f (bitOr r (n * 2 ^ (8 * k) % 2 ^ 64))
+  named-more k m f g r n b e first next = subst (λ v. Named ticks (k + m) f (bitOr r v)) (sym (shl-exact (8 * m) (8 * k) 64 (next .size) (omega arith))) (record {
+    size = bytes-size n k r (first .size) m (next .size);
+    words = more-places (λ j. tickAt ticks (bitOr r (n * 2 ^ (8 * k))) j ≡ f j) k m
+        (λ j l. ap (λ x. getD ticks x 0) (byte-below n k r (first .size) j l) ∙ first .words j l)
+        (λ j l. ap (λ x. getD ticks x 0) (byte-above n k r (first .size) j) ∙ next .words j l ∙ e j l);
   })
+
+  pub named-turn : (k : ℕ) (f : ℕ → ℕ) (r n : ℕ) → k < 8 → n < 256 → getD ticks n 0 ≡ f k → Named ticks k f r → Named ticks (k + 1) f (bitOr r (n * 2 ^ (8 * k) % 2 ^ 64))
+  named-turn k f r n h s p m = named-more k 1 f (λ j. f k) r n (omega arith)
+      (λ j l. let e : k ≡ k + j = omega arith in ap f e) m
+      (record { size = s; words = λ j l. (let z : j ≡ 0 = omega arith in ap (λ x. getD ticks (byteAt n x) 0) z ∙ ap (λ x. getD ticks x 0) (byte-whole n s) ∙ p) })
+
+  -- the words from place k on
+  pub tick-further : (w k j : ℕ) → tickAt ticks (w / 2 ^ (8 * k)) j ≡ tickAt ticks w (k + j)
+  tick-further w k j = ap (λ x. getD ticks x 0) (byte-further w k j)
+
+  pub later-further : (a b k j : ℕ) → laterAt ticks (a / 2 ^ (8 * k)) (b / 2 ^ (8 * k)) j ≡ laterAt ticks a b (k + j)
+  later-further a b k j = ap₂ max (tick-further a k j) (tick-further b k j)
+
+  -- where the next m places have none
+  module _ (nothing : getD ticks 0 0 ≡ 0) where
+    pub tick-none : (w k j : ℕ) → w / 2 ^ (8 * k) ≡ 0 → tickAt ticks w (k + j) ≡ 0
+    tick-none w k j h = ap (λ x. getD ticks x 0) (byte-none w k j h) ∙ nothing
+
+    pub named-none : (k m : ℕ) (f : ℕ → ℕ) (r : ℕ) → ((j : ℕ) → j < m → f (k + j) ≡ 0) → Named ticks k f r → Named ticks (k + m) f r
+    named-none k m f r e first = record {
+      size = lt-of-lt-of-le (first .size) (pow-mono (omega arith));
+      words = more-places (λ j. tickAt ticks r j ≡ f j) k m (first .words) (λ j l. tick-none r k j (div-eq-of-lt (first .size)) ∙ sym (e j l));
+    }
+
+    pub later-none : (a b k j : ℕ) → bitOr a b / 2 ^ (8 * k) ≡ 0 → laterAt ticks a b (k + j) ≡ 0
+    later-none a b k j h =
+        let x = a / 2 ^ (8 * k) in
+        let y = b / 2 ^ (8 * k) in
+        let z : bitOr x y ≡ 0 = sym (or-shr a b (8 * k)) ∙ h in
+        let p : x ≡ 0 = omega (arith, or-add-and x y, and-le-r x y) in
+        let q : y ≡ 0 = omega (arith, or-add-and x y, and-le-l x y) in
+        ap₂ max (tick-none a k j p) (tick-none b k j q)
 
 -- ---- a word with one byte
 module _ (n k : ℕ) (s : n < 256) (h : k < 8) where
   alone : n * 2 ^ (8 * k) % 2 ^ 64 ≡ bitOr 0 (n * 2 ^ (8 * k))
-  alone = shifted n k s h ∙ sym (or-zero-l (n * 2 ^ (8 * k)))
+  alone = shl-exact 8 (8 * k) 64 s (omega arith) ∙ sym (or-zero-l (n * 2 ^ (8 * k)))
 
   pub lone-byte : byteAt (n * 2 ^ (8 * k) % 2 ^ 64) k ≡ n
-  lone-byte = ap (λ w. byteAt w k) alone ∙ byte-top n k 0 (pow-pos (8 * k)) s
+  lone-byte = let e : k ≡ k + 0 = omega arith in ap₂ byteAt alone e ∙ byte-above n k 0 (pow-pos (8 * k)) 0 ∙ byte-whole n s
 
   pub other-byte : (j : ℕ) → (j ≡ k → ⊥) → byteAt (n * 2 ^ (8 * k) % 2 ^ 64) j ≡ 0
   other-byte j d = ap (λ w. byteAt w j) alone ∙ elim (decLt j k) [
-    | yes l ↦ byte-below n k 0 (pow-pos (8 * k)) s j l ∙ byte-beyond 0 j (pow-pos (8 * j))
-    | no l ↦ byte-beyond (bitOr 0 (n * 2 ^ (8 * k))) j (lt-of-lt-of-le (byte-size n k 0 (pow-pos (8 * k)) s) (pow-mono (omega (arith, d, l))))
+    | yes l ↦ byte-below n k 0 (pow-pos (8 * k)) j l ∙ byte-beyond 0 j (pow-pos (8 * j))
+    | no l ↦ byte-beyond (bitOr 0 (n * 2 ^ (8 * k))) j (lt-of-lt-of-le (bytes-size n k 0 (pow-pos (8 * k)) 1 s) (pow-mono (omega (arith, d, l))))
   ]
 
 -- ---- the ten words
@@ -103,3 +139,14 @@ module _ (ticks o : List ℕ) where
   pub word-of : (k : ℕ) → k < 8 → getD (wordsOf ticks o) (2 + k) 0 ≡ tickAt ticks (getD o 2 0) k
   unfolding wordsOf
   word-of k h = sym (getD-drop 2 (wordsOf ticks o) k 0) ∙ at-place (tickAt ticks (getD o 2 0)) 0 k h
+
+  -- the lowest of all places, by that of the first four
+  module _ (low : ℕ) (four : Lowest 4 (tickAt ticks (getD o 2 0)) low) where
+    pub lowest-first : getD ticks 0 0 ≡ 0 → getD o 2 0 / 2 ^ 32 ≡ 0 → LowestOf ticks o low
+    lowest-first z none = lowest-same 8 _ _ low word-of (lowest-none 4 4 _ low four (λ j. tick-none ticks z (getD o 2 0) 4 j none))
+
+    pub lowest-all : (high r : ℕ) → Lowest 4 (tickAt ticks (getD o 2 0 / 2 ^ 32)) high → Lower low high r → LowestOf ticks o r
+    lowest-all high r rest e =
+        lowest-same 8 _ _ r word-of
+        (lowest-both 4 4 (tickAt ticks (getD o 2 0)) low four high r
+        (lowest-same 4 _ _ high (λ k h. sym (tick-further ticks (getD o 2 0) 4 k)) rest) e)

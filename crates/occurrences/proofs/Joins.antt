@@ -27,7 +27,7 @@ use Rattle.timestamps.proofs.Maxima.{Covers}
 use Rattle.timestamps.proofs.Order.{Before, before-is, before-says, clear-less, one-clock, quotient-le, two-clocks}
 use Rattle.occurrences.specs.Combination.{combinedOf}
 use Rattle.occurrences.specs.Packed.{fromWords, occurrenceOf, wordsOf}
-use Rattle.occurrences.specs.Steps.{Highest, floorOf, keptOf, tickAt}
+use Rattle.occurrences.specs.Steps.{Highest, Named, floorOf, joinedStamps, keptOf, laterAt, stampsIn, tickAt}
 use Rattle.occurrences.proofs.Bytes.{length-words, word-of}
 use Rattle.occurrences.proofs.Combination.{same-occurrence}
 use Rattle.occurrences.proofs.Floors.{clear-floor, floor-clear}
@@ -46,6 +46,12 @@ kept-small f w l = rw (lt-ltb w f l)
 pub kept-large : (f w : ℕ) → f ≤ w → keptOf f w ≡ w
 unfolding keptOf
 kept-large f w l = rw (le-ltb w f l)
+
+pub kept-none : (f w : ℕ) → w ≡ 0 → keptOf f w ≡ 0
+kept-none f w e = elim (decLt w f) [
+  | yes g ↦ kept-small f w g
+  | no g ↦ kept-large f w (omega arith) ∙ e
+]
 
 module _ (ratio : ℕ) where
   -- one that is clearly earlier is before, also on one clock
@@ -134,14 +140,8 @@ module _ (ratio : ℕ) where
           any-none (before ratio (stampAt (latestOf c) k)) (members (latestOf c)) (λ t m. false-of-not-true _ (λ e. above-none k p (omega arith) t m (before-says ratio (stampAt (latestOf c) k) t e))),
         ))
       ]
-      | no p ↦ gone (nothing (floorOf ratio h) (wordAt c k) (omega arith)) (rw (present-at c k, le-ltb 0 (wordAt c k) (omega arith)))
+      | no p ↦ gone (kept-none (floorOf ratio h) (wordAt c k) (omega arith)) (rw (present-at c k, le-ltb 0 (wordAt c k) (omega arith)))
     ]
-      where
-        nothing : (f w : ℕ) → w ≡ 0 → keptOf f w ≡ 0
-        nothing f w e = elim (decLt w f) [
-          | yes g ↦ kept-small f w g
-          | no g ↦ kept-large f w (omega arith) ∙ e
-        ]
 
     there : (k : ℕ) → Case k → ltb 0 (keptOf (floorOf ratio h) (wordAt c k)) ≡ maximalAt ratio (latestOf c) k
     there k (gone e f) = rw (e, f)
@@ -158,23 +158,33 @@ module _ (ratio : ℕ) where
         (λ k l. (λ i. record { 0 = kept k l i - 1 }) ∙ told k (kept-case k l))
         ∙ joinOf-places ratio (latestOf c)
 
-  -- ---- the whole: the events of both, with the word w
-  module _ (ticks a b : List ℕ) where
-    abbrev both : ℕ → List ℕ
-    both w = bitOr (getD a 0 0) (getD b 0 0) ∷ bitOr (getD a 1 0) (getD b 1 0) ∷ w ∷ []
+  -- ---- by the numbers that name them
+  module _ (ticks : List ℕ) where
+    abbrev wordsIn : ℕ → List ℕ
+    wordsIn w = wordsOf ticks (0 ∷ 0 ∷ w ∷ [])
 
-    events-is : (w : ℕ) → occurrenceOf ticks (both w) .events ≡ unionOf (occurrenceOf ticks a .events) (occurrenceOf ticks b .events)
-    unfolding fromWords unionOf wordsOf
-    events-is w = refl
+    word-in : (w k : ℕ) → k < 8 → wordAt (wordsIn w) k ≡ tickAt ticks w k
+    word-in w = word-of ticks (0 ∷ 0 ∷ w ∷ [])
 
-    pub combined-is : (m s h f : ℕ) → ((k : ℕ) → k < 8 → tickAt ticks m k ≡ max (tickAt ticks (getD a 2 0) k) (tickAt ticks (getD b 2 0) k)) → Highest 8 (tickAt ticks m) h
-        → f ≡ floorOf ratio h → ((k : ℕ) → k < 8 → tickAt ticks s k ≡ keptOf f (tickAt ticks m k)) → occurrenceOf ticks (both s) ≡ combinedOf ratio (occurrenceOf ticks a) (occurrenceOf ticks b)
-    unfolding combinedOf
-    combined-is m s h f later top e kept = same-occurrence
-        (settled-join (wordsOf ticks (both m)) h
-        (highest-same 8 (tickAt ticks m) (wordAt (wordsOf ticks (both m))) h (word-of ticks (both m)) top)
-        (wordsOf ticks (both s)) (length-words ticks (both s))
-        (λ k l. word-of ticks (both s) k l ∙ kept k l ∙ ap (λ x. keptOf x (tickAt ticks m k)) e ∙ ap (keptOf (floorOf ratio h)) (sym (word-of ticks (both m) k l)))
-        ∙ merged-join (wordsOf ticks a) (wordsOf ticks b) (wordsOf ticks (both m))
-        (λ k l. word-of ticks (both m) k l ∙ later k l ∙ sym (ap₂ max (word-of ticks a k l) (word-of ticks b k l))))
-        (events-is s)
+    pub stamps-joined : (a b m s h f : ℕ) → Named ticks 8 (laterAt ticks a b) m → Highest 8 (laterAt ticks a b) h → f ≡ floorOf ratio h
+        → Named ticks 8 (λ k. keptOf f (tickAt ticks m k)) s → stampsIn ticks s ≡ joinedStamps ratio ticks a b
+    stamps-joined a b m s h f later top e kept =
+        settled-join (wordsIn m) h
+        (highest-same 8 (laterAt ticks a b) (wordAt (wordsIn m)) h (λ k l. word-in m k l ∙ later .words k l) top)
+        (wordsIn s) (length-words ticks (0 ∷ 0 ∷ s ∷ []))
+        (λ k l. word-in s k l ∙ kept .words k l ∙ ap (λ x. keptOf x (tickAt ticks m k)) e ∙ ap (keptOf (floorOf ratio h)) (sym (word-in m k l)))
+        ∙ merged-join (wordsIn a) (wordsIn b) (wordsIn m)
+        (λ k l. word-in m k l ∙ later .words k l ∙ sym (ap₂ max (word-in a k l) (word-in b k l)))
+
+    -- the whole: the events of both, with the word w
+    module _ (a b : List ℕ) where
+      abbrev both : ℕ → List ℕ
+      both w = bitOr (getD a 0 0) (getD b 0 0) ∷ bitOr (getD a 1 0) (getD b 1 0) ∷ w ∷ []
+
+      events-is : (w : ℕ) → occurrenceOf ticks (both w) .events ≡ unionOf (occurrenceOf ticks a .events) (occurrenceOf ticks b .events)
+      unfolding fromWords unionOf wordsOf
+      events-is w = refl
+
+      pub combined-is : (w : ℕ) → stampsIn ticks w ≡ joinedStamps ratio ticks (getD a 2 0) (getD b 2 0) → occurrenceOf ticks (both w) ≡ combinedOf ratio (occurrenceOf ticks a) (occurrenceOf ticks b)
+      unfolding combinedOf fromWords wordsOf
+      combined-is w e = same-occurrence e (events-is w)

@@ -72,12 +72,3 @@ module _ (w : List ℕ) where
 
       places : {B : Type 0} (q : ℕ → B) → length (map q loggerPlaces) ≡ 8
       places q = length-map loggerPlaces q ∙ length-range 0 8
-
--- what is unpacked
-pub unpacked-is : (w : List ℕ) (present : List Bool) (ticks : List LocalTick) → length w ≡ 10
-    → present ≡ map (λ k. ltb 0 (wordAt w k)) loggerPlaces → ticks ≡ map (λ k. tickOf (wordAt w k)) loggerPlaces
-    → _≡_ {A = Occurrence} (record { latest = record { present = present; ticks = ticks }; events = record { low = getD w 0 0; high = getD w 1 0 } }) (fromWords w)
-unfolding fromWords
-unpacked-is w present ticks n p q = same-occurrence
-    ((λ i. record { present = p i; ticks = q i }) ∙ sym (latest-places w (λ k. ltb 0 (wordAt w k)) (λ k. tickOf (wordAt w k)) n (λ k l. refl) (λ k l. refl)))
-    refl

@@ -2,14 +2,15 @@
 use event_sets::EventSet;
 use timestamps::CompositeTimestamp;
 use timestamps::LocalTick;
+ghost use mathlib.Core.Bool.{true};
 ghost use mathlib.Core.List.{List};
 ghost use mathlib.Core.Path.{_≡_};
-ghost use Prim.Native.Nat.{ℕ, _<_, _+_, _-_, _%_, _^_, max};
+ghost use Prim.Native.Nat.{ℕ, _<_, _≤_, _+_, _-_, _%_, _^_, max};
 ghost use lib.ListN.{getD};
 ghost use Rattle.occurrences.specs.Combination.{combinedOf};
 ghost use Rattle.occurrences.specs.Occurrences.{isBefore, ofEvent};
 ghost use Rattle.occurrences.specs.Packed.{byteAt, occurrenceOf, wordsOf};
-ghost use Rattle.occurrences.specs.Steps.{Highest, Lower, Lowest, clearOf, floorOf, keptOf, laterOf, ownBefore, tickAt};
+ghost use Rattle.occurrences.specs.Steps.{Highest, Lower, Lowest, LowestOf, Named, clearOf, floorOf, joinedStamps, keptOf, laterAt, laterOf, ownBefore, stampsIn, tickAt};
 
 // Document 01's occurrence: its composite stamp and its events.
 pub struct Occurrence {
@@ -59,33 +60,6 @@ fn tick_of(w: u64) -> LocalTick
     }
 }
 
-// What the three numbers stand for.
-pub fn unpacked(o: &[u64; 3], ticks: &[u64; 256]) -> Occurrence
-    ensures { λ r. ⌜ r ≡ occurrenceOf (now (ticks .entry)) (now (o .entry)) ⌝ }
-{
-    let mut present = [false; 8];
-    let mut those = [LocalTick(0); 8];
-    let mut k: usize = 0;
-    while k < 8 {
-        let w = word_at(o, ticks, k);
-        present[k] = 0 < w;
-        those[k] = tick_of(w);
-        k = k + 1;
-    }
-    let latest = CompositeTimestamp {
-        present: present,
-        ticks: those,
-    };
-    let events = EventSet {
-        low: o[0],
-        high: o[1],
-    };
-    Occurrence {
-        latest: latest,
-        events: events,
-    }
-}
-
 // ---- the join
 
 fn larger(a: u64, b: u64) -> u64
@@ -102,31 +76,45 @@ fn later_of(i: usize, j: usize, ticks: &[u64; 256]) -> usize
     if ticks[i] < ticks[j] { j } else { i }
 }
 
-// Of each logger the later timestamp.
-fn merged(a: u64, b: u64, ticks: &[u64; 256]) -> u64
-    ensures { λ r. ⌜ ((k : ℕ) → k < 8 → tickAt (now (ticks .entry)) r k ≡ max (tickAt (now (ticks .entry)) a k) (tickAt (now (ticks .entry)) b k)) ⌝ }
+// Which events have the later timestamps, and the latest of these.
+struct Merge {
+    events: u64,
+    highest: u64,
+}
+
+// At the first four logger places the later timestamp of each.
+fn merged_of_four(a: u64, b: u64, ticks: &[u64; 256]) -> Merge
+    ensures { λ r. ⌜ Named (now (ticks .entry)) 4 (laterAt (now (ticks .entry)) a b) (r .events) × Highest 4 (laterAt (now (ticks .entry)) a b) (r .highest) ⌝ }
 {
     let mut r: u64 = 0;
+    let mut h: u64 = 0;
     let mut k: usize = 0;
-    while k < 8 {
+    while k < 4 {
         let n = later_of(event_at(a, k), event_at(b, k), ticks);
+        h = larger(h, ticks[n]);
         r = r | (n as u64) << (8 * k);
         k = k + 1;
     }
-    r
+    Merge {
+        events: r,
+        highest: h,
+    }
 }
 
-// The latest of all timestamps, 0 where there is none.
-fn highest(c: u64, ticks: &[u64; 256]) -> u64
-    ensures { λ r. ⌜ Highest 8 (tickAt (now (ticks .entry)) c) r ⌝ }
+// Of each logger the later timestamp.
+fn merged(a: u64, b: u64, ticks: &[u64; 256]) -> Merge
+    requires { ⌜ getD (now ticks) 0 0 ≡ 0 ⌝ }
+    ensures { λ r. ⌜ Named (now (ticks .entry)) 8 (laterAt (now (ticks .entry)) a b) (r .events) × Highest 8 (laterAt (now (ticks .entry)) a b) (r .highest) ⌝ }
 {
-    let mut h: u64 = 0;
-    let mut k: usize = 0;
-    while k < 8 {
-        h = larger(h, ticks[event_at(c, k)]);
-        k = k + 1;
+    let low = merged_of_four(a, b, ticks);
+    if (a | b) >> 32 == 0 {
+        return low;
     }
-    h
+    let high = merged_of_four(a >> 32, b >> 32, ticks);
+    Merge {
+        events: low.events | high.events << 32,
+        highest: larger(low.highest, high.highest),
+    }
 }
 
 // The first that is not clearly earlier than w; numbers as they are packed.
@@ -146,14 +134,14 @@ fn kept(i: usize, f: u64, ticks: &[u64; 256]) -> usize
     if ticks[i] < f { 0 } else { i }
 }
 
-// Those that are not below the floor.
-fn settled(c: u64, f: u64, ticks: &[u64; 256]) -> u64
+// At the first four logger places those that are not below the floor.
+fn settled_of_four(c: u64, f: u64, ticks: &[u64; 256]) -> u64
     requires { ⌜ getD (now ticks) 0 0 ≡ 0 ⌝ }
-    ensures { λ r. ⌜ ((k : ℕ) → k < 8 → tickAt (now (ticks .entry)) r k ≡ keptOf f (tickAt (now (ticks .entry)) c k)) ⌝ }
+    ensures { λ r. ⌜ Named (now (ticks .entry)) 4 (λ k. keptOf f (tickAt (now (ticks .entry)) c k)) r ⌝ }
 {
     let mut r: u64 = 0;
     let mut k: usize = 0;
-    while k < 8 {
+    while k < 4 {
         let n = kept(event_at(c, k), f, ticks);
         r = r | (n as u64) << (8 * k);
         k = k + 1;
@@ -161,18 +149,37 @@ fn settled(c: u64, f: u64, ticks: &[u64; 256]) -> u64
     r
 }
 
+// Those that are not below the floor.
+fn settled(c: u64, f: u64, ticks: &[u64; 256]) -> u64
+    requires { ⌜ getD (now ticks) 0 0 ≡ 0 ⌝ }
+    ensures { λ r. ⌜ Named (now (ticks .entry)) 8 (λ k. keptOf f (tickAt (now (ticks .entry)) c k)) r ⌝ }
+{
+    let low = settled_of_four(c, f, ticks);
+    if c >> 32 == 0 {
+        return low;
+    }
+    low | settled_of_four(c >> 32, f, ticks) << 32
+}
+
+// The join of the timestamps: of the later ones those that are not below the floor of the latest.
+fn stamps_joined(a: u64, b: u64, ticks: &[u64; 256], ratio: u64) -> u64
+    requires { ⌜ getD (now ticks) 0 0 ≡ 0 ⌝ }
+    ensures { λ r. ⌜ stampsIn (now (ticks .entry)) r ≡ joinedStamps ratio (now (ticks .entry)) a b ⌝ }
+{
+    let m = merged(a, b, ticks);
+    let f = floor(m.highest, ratio);
+    settled(m.events, f, ticks)
+}
+
 // The combination of two: the join of their timestamps and the union of their events.
 pub fn combined(a: &[u64; 3], b: &[u64; 3], ticks: &[u64; 256], ratio: u64) -> [u64; 3]
     requires { ⌜ getD (now ticks) 0 0 ≡ 0 ⌝ }
     ensures { λ r. ⌜ occurrenceOf (now (ticks .entry)) r ≡ combinedOf ratio (occurrenceOf (now (ticks .entry)) (now (a .entry))) (occurrenceOf (now (ticks .entry)) (now (b .entry))) ⌝ }
 {
-    let m = merged(a[2], b[2], ticks);
-    let h = highest(m, ticks);
-    let f = floor(h, ratio);
     let mut c = [0u64; 3];
     c[0] = a[0] | b[0];
     c[1] = a[1] | b[1];
-    c[2] = settled(m, f, ticks);
+    c[2] = stamps_joined(a[2], b[2], ticks, ratio);
     c
 }
 
@@ -185,18 +192,32 @@ fn lower(low: u64, t: u64) -> u64
     if t < low { t } else { low }
 }
 
-// The earliest of all timestamps, 0 where there is none.
-fn lowest(o: &[u64; 3], ticks: &[u64; 256]) -> u64
-    ensures { λ r. ⌜ Lowest 8 (λ k. getD (wordsOf (now (ticks .entry)) (now (o .entry))) (2 + k) 0) r ⌝ }
+// The earliest tick of the first four places; the largest number stands for none.
+fn lowest_of_four(w: u64, ticks: &[u64; 256]) -> u64
+    ensures { λ r. ⌜ Lowest 4 (tickAt (now (ticks .entry)) w) ((r + 1) % 2 ^ 64) ⌝ }
 {
     let mut low: u64 = 18446744073709551615;
     let mut k: usize = 0;
-    while k < 8 {
-        let t = std::num::wrapping_sub_u64(word_at(o, ticks, k), 1);
+    while k < 4 {
+        let t = std::num::wrapping_sub_u64(ticks[event_at(w, k)], 1);
         low = lower(low, t);
         k = k + 1;
     }
-    std::num::wrapping_add_u64(low, 1)
+    low
+}
+
+// The earliest of all timestamps, 0 where there is none. The last four places are looked at only where they have any.
+pub fn lowest(o: &[u64; 3], ticks: &[u64; 256]) -> u64
+    requires { ⌜ getD (now ticks) 0 0 ≡ 0 ⌝ }
+    ensures { λ r. ⌜ LowestOf (now (ticks .entry)) (now (o .entry)) r ⌝ }
+{
+    let w = o[2];
+    let low = lowest_of_four(w, ticks);
+    let high = w >> 32;
+    if high == 0 {
+        return std::num::wrapping_add_u64(low, 1);
+    }
+    std::num::wrapping_add_u64(lower(low, lowest_of_four(high, ticks)), 1)
 }
 
 // Whether v is one, and before w on one clock.
@@ -239,11 +260,44 @@ fn later(low: u64, v: u64, w: u64, ratio: u64) -> bool
     clearly(low, w, ratio)
 }
 
-// Whether the first one's composite timestamp is before the second's.
-pub fn before(a: &[u64; 3], b: &[u64; 3], ticks: &[u64; 256], ratio: u64) -> bool
+// Whether low is two ratios or more before w, so that it is clearly earlier than w and all after it.
+fn is_far(low: u64, w: u64, ratio: u64) -> bool
+    ensures { λ r. ⌜ (r ≡ true → (v : ℕ) → w ≤ v → clearOf ratio low v ≡ true) ⌝ }
+{
+    if low == 0 {
+        return false;
+    }
+    if w <= low {
+        return false;
+    }
+    let d = w - low;
+    if d <= ratio {
+        return false;
+    }
+    if d - ratio < ratio {
+        return false;
+    }
+    0 < ratio
+}
+
+// Whether the first one's composite timestamp is before the second's. Their lowest timestamps, which the caller has, often decide it.
+pub fn before(
+    low: u64,
+    first: u64,
+    a: &[u64; 3],
+    b: &[u64; 3],
+    ticks: &[u64; 256],
+    ratio: u64,
+) -> bool
+    requires { ⌜ LowestOf (now ticks) (now a) low × LowestOf (now ticks) (now b) first ⌝ }
     ensures { λ r. ⌜ r ≡ isBefore ratio (occurrenceOf (now (ticks .entry)) (now (a .entry))) (occurrenceOf (now (ticks .entry)) (now (b .entry))) ⌝ }
 {
-    let low = lowest(a, ticks);
+    if std::num::wrapping_sub_u64(first, 1) < low {
+        return false;
+    }
+    if is_far(low, first, ratio) {
+        return true;
+    }
     let mut k: usize = 0;
     while k < 8 {
         if !later(low, word_at(a, ticks, k), word_at(b, ticks, k), ratio) {

@@ -48,7 +48,7 @@ fn or_all(
     loggers: &[u64; 8],
     out: &mut [u8],
 ) -> Emit
-    requires { ⌜ (e .at ≤ length (now out)) × (e .findings ≤ e .at) ⌝ }
+    requires { ⌜ (getD (now ticks) 0 0 ≡ 0) × (e .at ≤ length (now out)) × (e .findings ≤ e .at) ⌝ }
     ensures { λ r. ⌜ (emitOf (now (ticks .entry)) r (now (made .exit)) (now (out .exit)) ≡ emittedAll (length (now (out .entry))) (now (loggers .entry)) place (emitOf (now (ticks .entry)) e (now (made .entry)) (now (out .entry))) (held (now (ticks .entry)) (now (arrivals .entry)) count)) × Beyond (now (out .entry)) (now (out .exit)) (e .at) (r .findings) (r .at) ⌝ }
 {
     let n = up_to(count, arrivals[..].len());
@@ -217,7 +217,7 @@ fn or_turn(
     loggers: &[u64; 8],
     out: &mut [u8],
 ) -> Emit
-    requires { ⌜ (e .at ≤ length (now out)) × (e .findings ≤ e .at) ⌝ }
+    requires { ⌜ (getD (now ticks) 0 0 ≡ 0) × (e .at ≤ length (now out)) × (e .findings ≤ e .at) ⌝ }
     ensures { λ r. ⌜ (emitOf (now (ticks .entry)) r (now (made .exit)) (now (out .exit)) ≡ orTurn (length (now (out .entry))) (now (loggers .entry)) place (held (now (ticks .entry)) (now (la .entry)) na) (held (now (ticks .entry)) (now (ra .entry)) nb) (emitOf (now (ticks .entry)) e (now (made .entry)) (now (out .entry)))) × Beyond (now (out .entry)) (now (out .exit)) (e .at) (r .findings) (r .at) ⌝ }
 {
     let f = or_all(e, made, la, na, place, ticks, loggers, out);

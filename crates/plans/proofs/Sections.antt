@@ -2,10 +2,10 @@
 use mathlib.Core.Path.{_≡_, refl, sym, ap}
 use mathlib.Core.List.{List, [], _∷_, _++_}
 use mathlib.Core.Bool.{Bool, true, false, _&&_}
-use Prim.Native.Nat.{ℕ, _+_, _≤_, _<_}
+use Prim.Native.Nat.{ℕ, _+_, _<_}
 use native.Mathlib.Numerals.{add-one}
 use native.Mathlib.Omega.{arith}
-use lib.ListN.{length, getD, take, set}
+use lib.ListN.{length, take, set}
 use lib.Dec.{leb, ltb}
 use borrow.Author.Tests.{le-leb}
 use Rattle.sequences.specs.Choice.{pick}
@@ -59,16 +59,3 @@ node-value b at o x l r eo ex el er =
 pub node-piece : (b : List ℕ) (at cut kinds place : ℕ) (l : List Node) → length l ≡ place
     → piece node cut (nodeFault kinds place) b at ≡ piece node cut (nodes kinds .entry-fault l) b at
 node-piece b at cut kinds place l e = ap (λ m. piece node cut (nodeFault kinds m) b at) (sym e)
-
--- ---- the first eight of a list
-pub eight : (l : List ℕ) → 8 ≤ length l
-    → getD l 0 0 ∷ getD l 1 0 ∷ getD l 2 0 ∷ getD l 3 0 ∷ getD l 4 0 ∷ getD l 5 0 ∷ getD l 6 0 ∷ getD l 7 0 ∷ [] ≡ take 8 l
-eight [] k = absurd (omega arith)
-eight (a ∷ []) k = absurd (omega arith)
-eight (a ∷ b ∷ []) k = absurd (omega arith)
-eight (a ∷ b ∷ c ∷ []) k = absurd (omega arith)
-eight (a ∷ b ∷ c ∷ d ∷ []) k = absurd (omega arith)
-eight (a ∷ b ∷ c ∷ d ∷ e ∷ []) k = absurd (omega arith)
-eight (a ∷ b ∷ c ∷ d ∷ e ∷ f ∷ []) k = absurd (omega arith)
-eight (a ∷ b ∷ c ∷ d ∷ e ∷ f ∷ g ∷ []) k = absurd (omega arith)
-eight (a ∷ b ∷ c ∷ d ∷ e ∷ f ∷ g ∷ h ∷ l) k = refl

@@ -1,9 +1,9 @@
 // The plan file: clocks, loggers, kinds and nodes. The layout, the limits and the numbers of the faults are document 01's.
 use timestamps::Timestamp;
 ghost use mathlib.Core.Path.{_≡_};
-ghost use Prim.Native.Nat.{_+_, _<_, _≤_};
-ghost use mathlib.Core.List.{[], _∷_};
-ghost use lib.ListN.{length, take, replicate};
+ghost use Prim.Native.Nat.{ℕ, _+_, _<_, _≤_};
+ghost use mathlib.Core.List.{List, [], _∷_, map};
+ghost use lib.ListN.{length};
 ghost use lib.Dec.{eqb};
 ghost use Rattle.forms.specs.Forms.{number};
 ghost use Rattle.forms.specs.Sections.{outside, piece, section};
@@ -12,7 +12,7 @@ ghost use Rattle.plans.specs.Faults.{numberOf};
 ghost use Rattle.plans.specs.Layout.{node};
 ghost use Rattle.plans.specs.Limits.{noNode};
 ghost use Rattle.plans.specs.Reader.{clocks, numbers, loggers, kinds, nodes, isInput, nodeFault, refused, readPlan};
-ghost use Rattle.plans.specs.Views.{planOf, answerOf, NumbersAre};
+ghost use Rattle.plans.specs.Views.{Filled, answerOf, nodeOf};
 
 // A node entry, with the numbers of the file.
 pub struct Node {
@@ -51,24 +51,29 @@ impl Node {
     }
 }
 
-// A plan. Each array holds as many as its count says, from the front.
-pub struct Plan {
-    pub ratio: u64,
-    pub logger_count: usize,
-    pub loggers: [u64; 8],
-    pub kind_count: usize,
-    pub kinds: [u64; 32],
-    pub node_count: usize,
-    pub nodes: [Node; 16],
+fn wide(n: u16) -> u64
+    ensures { λ r. ⌜ r ≡ n ⌝ }
+{
+    n as u64
 }
 
-impl Plan {
-    pub const MAX_LOGGERS: u64 = 8;
-
-    pub const MAX_KINDS: u64 = 32;
-
-    pub const MAX_NODES: u64 = 16;
+// A node from its row.
+pub fn node_of(row: &[u16; 4]) -> Node
+    ensures { λ r. ⌜ r ≡ nodeOf (now (row .entry)) ⌝ }
+{
+    Node {
+        operator: wide(row[0]),
+        context: wide(row[1]),
+        left: wide(row[2]),
+        right: wide(row[3]),
+    }
 }
+
+const MAX_LOGGERS: u64 = 8;
+
+const MAX_KINDS: u64 = 32;
+
+const MAX_NODES: u64 = 16;
 
 // Why a plan is turned back.
 pub enum PlanFault {
@@ -87,24 +92,21 @@ pub enum PlanFault {
     BytesRemain,
 }
 
-// A plan; or its fault, the place of the count or entry, and a plan with nothing in it.
+// A plan: its ratio, and how many loggers, kinds and nodes there are in front of the arrays that were lent; or its fault and
+// the place of the count or entry, with nothing counted.
 pub struct PlanRead {
-    pub plan: Plan,
     pub fault: PlanFault,
     pub place: usize,
+    pub ratio: u64,
+    pub logger_count: usize,
+    pub kind_count: usize,
+    pub node_count: usize,
 }
 
-// What reading a piece or a section gives: its fault, what was read, and the place after it or of the fault.
+// What reading a piece or a section gives: its fault, what was read or how many, and the place after it or of the fault.
 struct NumberRead {
     fault: PlanFault,
     value: u64,
-    at: usize,
-}
-
-struct NumbersRead {
-    fault: PlanFault,
-    numbers: [u64; 32],
-    count: usize,
     at: usize,
 }
 
@@ -114,33 +116,18 @@ struct NodeRead {
     at: usize,
 }
 
-struct NodesRead {
+struct CountRead {
     fault: PlanFault,
-    nodes: [Node; 16],
     count: usize,
     at: usize,
 }
 
-impl NumbersRead {
+impl CountRead {
     fn stopped(fault: PlanFault, at: usize) -> Self
-        ensures { λ r. ⌜ r ≡ record { fault = fault; numbers = replicate 32 0; count = 0; at = at } ⌝ }
+        ensures { λ r. ⌜ r ≡ record { fault = fault; count = 0; at = at } ⌝ }
     {
-        NumbersRead {
+        CountRead {
             fault,
-            numbers: [0; 32],
-            count: 0,
-            at,
-        }
-    }
-}
-
-impl NodesRead {
-    fn stopped(fault: PlanFault, at: usize) -> Self
-        ensures { λ r. ⌜ r ≡ record { fault = fault; nodes = replicate 16 noNode; count = 0; at = at } ⌝ }
-    {
-        NodesRead {
-            fault,
-            nodes: [Node::none(); 16],
             count: 0,
             at,
         }
@@ -233,18 +220,18 @@ fn read_clocks(bytes: &[u8], start: usize) -> NumberRead
 fn read_numbers(
     bytes: &[u8],
     start: usize,
+    into: &mut [u16],
     limit: u64,
     miscount: PlanFault,
     disorder: PlanFault,
-) -> NumbersRead
-    requires { ⌜ (limit ≤ 32) × (0 < numberOf miscount) × (0 < numberOf disorder) ⌝ }
-    ensures { λ r. ⌜ NumbersAre (numbers limit (numberOf miscount) (numberOf disorder)) (now (bytes .entry)) start r ⌝ }
+) -> CountRead
+    requires { ⌜ (limit ≤ length (now into)) × (0 < numberOf miscount) × (0 < numberOf disorder) ⌝ }
+    ensures { λ r. ⌜ Filled (numbers limit (numberOf miscount) (numberOf disorder)) (now (bytes .entry)) start r (now (into .exit)) ⌝ }
 {
-    let mut numbers = [0u64; 32];
     let counted = read_number(bytes, start, 2, 1, limit, miscount);
     let fault = counted.fault;
     if !fault.is_none() {
-        return NumbersRead::stopped(fault, counted.at);
+        return CountRead::stopped(fault, counted.at);
     }
     let count = counted.value as usize;
     let mut at = counted.at;
@@ -254,40 +241,41 @@ fn read_numbers(
         let n = read_number(bytes, at, 2, least, 65535, disorder);
         let fault = n.fault;
         if !fault.is_none() {
-            return NumbersRead::stopped(fault, n.at);
+            return CountRead::stopped(fault, n.at);
         }
-        numbers[i] = n.value;
+        into[i] = n.value as u16;
         least = n.value + 1;
         at = n.at;
         i += 1;
     }
-    NumbersRead {
+    CountRead {
         fault: PlanFault::None,
-        numbers,
         count,
         at,
     }
 }
 
-fn read_loggers(bytes: &[u8], start: usize) -> NumbersRead
-    ensures { λ r. ⌜ NumbersAre loggers (now (bytes .entry)) start r ⌝ }
+fn read_loggers(bytes: &[u8], start: usize, into: &mut [u16; 8]) -> CountRead
+    ensures { λ r. ⌜ Filled loggers (now (bytes .entry)) start r (now (into .exit)) ⌝ }
 {
     read_numbers(
         bytes,
         start,
-        Plan::MAX_LOGGERS,
+        into,
+        MAX_LOGGERS,
         PlanFault::LoggerCount,
         PlanFault::LoggerNumber,
     )
 }
 
-fn read_kinds(bytes: &[u8], start: usize) -> NumbersRead
-    ensures { λ r. ⌜ NumbersAre kinds (now (bytes .entry)) start r ⌝ }
+fn read_kinds(bytes: &[u8], start: usize, into: &mut [u16; 32]) -> CountRead
+    ensures { λ r. ⌜ Filled kinds (now (bytes .entry)) start r (now (into .exit)) ⌝ }
 {
     read_numbers(
         bytes,
         start,
-        Plan::MAX_KINDS,
+        into,
+        MAX_KINDS,
         PlanFault::KindCount,
         PlanFault::KindNumber,
     )
@@ -327,7 +315,7 @@ fn node_fault(node: Node, kinds: usize, place: usize) -> PlanFault
 // The entry at a place.
 fn node_at(bytes: &[u8], at: usize) -> Node
     requires { ⌜ at + 6 ≤ length (now bytes) ⌝ }
-    ensures { λ r. ⌜ r ≡ node .value (now (bytes .entry)) at ⌝ }
+    ensures { λ r. ⌜ (r ≡ node .value (now (bytes .entry)) at) × node .fits r ⌝ }
 {
     Node {
         operator: forms::number_at(bytes, at, 1),
@@ -337,8 +325,21 @@ fn node_at(bytes: &[u8], at: usize) -> Node
     }
 }
 
+// The row of a node.
+fn row_of(n: Node) -> [u16; 4]
+    requires { ⌜ node .fits n ⌝ }
+    ensures { λ r. ⌜ nodeOf r ≡ n ⌝ }
+{
+    [
+        n.operator as u16,
+        n.context as u16,
+        n.left as u16,
+        n.right as u16,
+    ]
+}
+
 fn read_node(bytes: &[u8], at: usize, kinds: usize, place: usize) -> NodeRead
-    ensures { λ r. ⌜ seen (numberOf (r .fault)) (r .node) (r .at) ≡ piece node (numberOf PlanFault.CutShort) (nodeFault kinds place) (now (bytes .entry)) at ⌝ }
+    ensures { λ r. ⌜ (seen (numberOf (r .fault)) (r .node) (r .at) ≡ piece node (numberOf PlanFault.CutShort) (nodeFault kinds place) (now (bytes .entry)) at) × node .fits (r .node) ⌝ }
 {
     if forms::left(bytes, at) < Node::WIDTH {
         return NodeRead {
@@ -359,14 +360,14 @@ fn read_node(bytes: &[u8], at: usize, kinds: usize, place: usize) -> NodeRead
     }
 }
 
-fn read_nodes(bytes: &[u8], start: usize, kinds: usize) -> NodesRead
-    ensures { λ r. ⌜ (seen (numberOf (r .fault)) (take (r .count) (r .nodes)) (r .at) ≡ section (nodes kinds) (now (bytes .entry)) start) ⌝ }
+fn read_nodes(bytes: &[u8], start: usize, kinds: usize, into: &mut [[u16; 4]; 16]) -> CountRead
+    ensures { λ r. ⌜ Filled (nodes kinds) (now (bytes .entry)) start r (map nodeOf (now (into .exit))) ⌝ }
 {
-    let mut nodes = [Node::none(); 16];
-    let counted = read_number(bytes, start, 2, 1, Plan::MAX_NODES, PlanFault::NodeCount);
+    let places = into[..].len();
+    let counted = read_number(bytes, start, 2, 1, MAX_NODES, PlanFault::NodeCount);
     let fault = counted.fault;
     if !fault.is_none() {
-        return NodesRead::stopped(fault, counted.at);
+        return CountRead::stopped(fault, counted.at);
     }
     let count = counted.value as usize;
     let mut at = counted.at;
@@ -375,92 +376,72 @@ fn read_nodes(bytes: &[u8], start: usize, kinds: usize) -> NodesRead
         let n = read_node(bytes, at, kinds, i);
         let fault = n.fault;
         if !fault.is_none() {
-            return NodesRead::stopped(fault, n.at);
+            return CountRead::stopped(fault, n.at);
         }
         let node = n.node;
-        nodes[i] = node;
+        into[i] = row_of(node);
         at = n.at;
         i += 1;
     }
-    NodesRead {
+    CountRead {
         fault: PlanFault::None,
-        nodes,
         count,
         at,
     }
 }
 
 // ---- the whole file
-fn first_eight(n: [u64; 32]) -> [u64; 8]
-    ensures { λ r. ⌜ r ≡ take 8 n ⌝ }
-{
-    [n[0], n[1], n[2], n[3], n[4], n[5], n[6], n[7]]
-}
-
 fn turned_back(fault: PlanFault, place: usize) -> PlanRead
-    ensures { λ r. ⌜ answerOf r ≡ refused (numberOf fault) place ⌝ }
+    ensures { λ r. ⌜ ((loggers kinds : List ℕ) (nodes : List (List ℕ)) → answerOf r loggers kinds nodes ≡ refused (numberOf fault) place) × (r .«logger_count» ≤ 8) × (r .«kind_count» ≤ 32) × (r .«node_count» ≤ 16) ⌝ }
 {
-    let plan = Plan {
+    PlanRead {
+        fault,
+        place,
         ratio: 0,
         logger_count: 0,
-        loggers: [0; 8],
         kind_count: 0,
-        kinds: [0; 32],
         node_count: 0,
-        nodes: [Node::none(); 16],
-    };
-    PlanRead { plan, fault, place }
-}
-
-fn assembled(ratio: u64, loggers: NumbersRead, kinds: NumbersRead, nodes: NodesRead) -> Plan
-    requires { ⌜ loggers .count ≤ 8 ⌝ }
-    ensures { λ r. ⌜ planOf r ≡ record { ratio = ratio; loggers = take (loggers .count) (loggers .numbers); kinds = take (kinds .count) (kinds .numbers); nodes = take (nodes .count) (nodes .nodes) } ⌝ }
-{
-    let logger_numbers = loggers.numbers;
-    let eight = first_eight(logger_numbers);
-    let kind_numbers = kinds.numbers;
-    let entries = nodes.nodes;
-    Plan {
-        ratio,
-        logger_count: loggers.count,
-        loggers: eight,
-        kind_count: kinds.count,
-        kinds: kind_numbers,
-        node_count: nodes.count,
-        nodes: entries,
     }
 }
 
-pub fn read_plan(bytes: &[u8]) -> PlanRead
-    ensures { λ r. ⌜ answerOf r ≡ readPlan (now (bytes .entry)) ⌝ }
+// Reads a plan into the arrays that are lent.
+pub fn read_plan(
+    bytes: &[u8],
+    loggers: &mut [u16; 8],
+    kinds: &mut [u16; 32],
+    nodes: &mut [[u16; 4]; 16],
+) -> PlanRead
+    ensures { λ r. ⌜ (answerOf r (now (loggers .exit)) (now (kinds .exit)) (now (nodes .exit)) ≡ readPlan (now (bytes .entry))) × (r .«logger_count» ≤ 8) × (r .«kind_count» ≤ 32) × (r .«node_count» ≤ 16) ⌝ }
 {
-    let clocks = read_clocks(bytes, 0);
-    let fault = clocks.fault;
+    let c = read_clocks(bytes, 0);
+    let fault = c.fault;
     if !fault.is_none() {
-        return turned_back(fault, clocks.at);
+        return turned_back(fault, c.at);
     }
-    let loggers = read_loggers(bytes, clocks.at);
-    let fault = loggers.fault;
+    let l = read_loggers(bytes, c.at, loggers);
+    let fault = l.fault;
     if !fault.is_none() {
-        return turned_back(fault, loggers.at);
+        return turned_back(fault, l.at);
     }
-    let kinds = read_kinds(bytes, loggers.at);
-    let fault = kinds.fault;
+    let k = read_kinds(bytes, l.at, kinds);
+    let fault = k.fault;
     if !fault.is_none() {
-        return turned_back(fault, kinds.at);
+        return turned_back(fault, k.at);
     }
-    let nodes = read_nodes(bytes, kinds.at, kinds.count);
-    let fault = nodes.fault;
+    let n = read_nodes(bytes, k.at, k.count, nodes);
+    let fault = n.fault;
     if !fault.is_none() {
-        return turned_back(fault, nodes.at);
+        return turned_back(fault, n.at);
     }
-    if nodes.at < bytes.len() {
-        return turned_back(PlanFault::BytesRemain, nodes.at);
+    if n.at < bytes.len() {
+        return turned_back(PlanFault::BytesRemain, n.at);
     }
-    let plan = assembled(clocks.value, loggers, kinds, nodes);
     PlanRead {
-        plan,
         fault: PlanFault::None,
         place: 0,
+        ratio: c.value,
+        logger_count: l.count,
+        kind_count: k.count,
+        node_count: n.count,
     }
 }

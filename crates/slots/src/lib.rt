@@ -1,22 +1,23 @@
-// Which node looks where: the slot where what arrives by an input is counted, and the next node that something arrives at.
-use plans::Node;
-ghost use mathlib.Core.Bool.{false};
+// Which node looks where: the slot where what arrives by an input is counted, the nodes that look at each slot, and the nodes that are due in an event.
 ghost use mathlib.Core.Path.{_≡_};
 ghost use Prim.Native.Nat.{ℕ, _-_, _≤_, _<_};
-ghost use lib.ListN.{getD, length, take};
-ghost use Rattle.progress.specs.Steps.{Firsts, Idle, LeftSlots, RightSlots, slotAt};
+ghost use lib.Count.{trailingZeros};
+ghost use lib.ListN.{getD};
+ghost use Rattle.progress.specs.Steps.{Slots, Takers, dueAfter, slotAt};
 
 // Where what arrives by an input of node k is counted: at its place for a kind, past the kinds for an earlier node; any other input where nothing is.
-fn slot_of(input: u64, k: usize) -> usize
-    requires { ⌜ k < 16 ⌝ }
-    ensures { λ r. ⌜ r ≡ slotAt k input ⌝ }
+// The node's row holds its left input at place 2 and its right input at place 3.
+fn slot_of(row: &[u16; 4], side: usize, k: usize) -> u8
+    requires { ⌜ (side < 4) × (k < 16) ⌝ }
+    ensures { λ r. ⌜ r ≡ slotAt k (getD (now (row .entry)) side 0) ⌝ }
 {
+    let input = row[side];
     if input < 33 {
-        input as usize
+        input as u8
     } else if input < 32768 {
         33
-    } else if input - 32768 < k as u64 {
-        (input - 32768) as usize + 34
+    } else if input - 32768 < k as u16 {
+        (input - 32768) as u8 + 34
     } else {
         33
     }
@@ -29,65 +30,54 @@ pub fn row_of(slot: usize) -> usize
     if slot < 33 { 0 } else { slot - 33 }
 }
 
-// The slots of the nodes' left inputs, and of their right inputs.
-pub fn left_slots(nodes: [Node; 16], n: usize) -> [usize; 16]
-    requires { ⌜ n ≤ 16 ⌝ }
-    ensures { λ r. ⌜ LeftSlots n (take n nodes) r ⌝ }
+// The slots of the nodes' inputs on one side.
+pub fn slots_of(nodes: &[[u16; 4]; 16], n: usize, side: usize) -> [u8; 16]
+    requires { ⌜ (n ≤ 16) × (side < 4) ⌝ }
+    ensures { λ r. ⌜ Slots side n (now (nodes .entry)) r ⌝ }
 {
-    let mut slots = [0usize; 16];
+    let mut slots = [0u8; 16];
     let mut k: usize = 0;
     while k < n {
-        slots[k] = slot_of(nodes[k].left, k);
+        slots[k] = slot_of(&nodes[k], side, k);
         k = k + 1;
     }
     slots
 }
 
-pub fn right_slots(nodes: [Node; 16], n: usize) -> [usize; 16]
-    requires { ⌜ n ≤ 16 ⌝ }
-    ensures { λ r. ⌜ RightSlots n (take n nodes) r ⌝ }
+// For each slot the nodes that look there, as bits.
+pub fn takers(lefts: &[u8; 16], rights: &[u8; 16], n: usize) -> [u16; 50]
+    requires { ⌜ (n ≤ 16) × ((k : ℕ) → k < n → (getD (now lefts) k 0 < 50) × (getD (now rights) k 0 < 50)) ⌝ }
+    ensures { λ r. ⌜ Takers (now (lefts .entry)) (now (rights .entry)) n r ⌝ }
 {
-    let mut slots = [0usize; 16];
+    let mut nodes = [0u16; 50];
     let mut k: usize = 0;
     while k < n {
-        slots[k] = slot_of(nodes[k].right, k);
+        let a = lefts[k] as usize;
+        let b = rights[k] as usize;
+        let node = 1u16 << k;
+        nodes[a] = nodes[a] | node;
+        nodes[b] = nodes[b] | node;
         k = k + 1;
     }
-    slots
+    nodes
 }
 
-// For each slot the first node that looks there; n where none does.
-pub fn first_takers(lefts: &[usize], rights: &[usize], n: usize) -> [usize; 50]
-    requires { ⌜ (n ≤ length (now lefts)) × (n ≤ length (now rights)) × ((k : ℕ) → k < n → (getD (now lefts) k 0 < 50) × (getD (now rights) k 0 < 50)) ⌝ }
-    ensures { λ r. ⌜ Firsts (now (lefts .entry)) (now (rights .entry)) n r ⌝ }
+// The first of the nodes that are due.
+pub fn next_due(due: u64) -> usize
+    ensures { λ r. ⌜ r ≡ trailingZeros 64 due ⌝ }
 {
-    let mut first = [n; 50];
-    let mut k = n;
-    while 0 < k {
-        k = k - 1;
-        first[lefts[k]] = k;
-        first[rights[k]] = k;
+    u64::trailing_zeros(due) as usize
+}
+
+// What is due after the turn of the first: the others, and the nodes that take what it made, if it made anything.
+pub fn due_after(due: u64, made: u8, takers: u16) -> u64
+    requires { ⌜ 0 < due ⌝ }
+    ensures { λ r. ⌜ r ≡ dueAfter due made takers ⌝ }
+{
+    let others = due & (due - 1);
+    if 0 < made {
+        others | takers as u64
+    } else {
+        others
     }
-    first
-}
-
-fn either(a: usize, b: usize) -> bool
-    ensures { λ r. ⌜ (r ≡ false → (a ≡ 0) × (b ≡ 0)) ⌝ }
-{
-    if a == 0 { 0 < b } else { true }
-}
-
-// The next node that something arrives at, from a place on; n if there is none.
-pub fn next_due(lefts: &[usize], rights: &[usize], counts: &[usize], from: usize, n: usize) -> usize
-    requires { ⌜ (from ≤ n) × (n ≤ length (now lefts)) × (n ≤ length (now rights)) × ((k : ℕ) → k < n → (getD (now lefts) k 0 < length (now counts)) × (getD (now rights) k 0 < length (now counts))) ⌝ }
-    ensures { λ r. ⌜ (from ≤ r) × (r ≤ n) × Idle (now (lefts .entry)) (now (rights .entry)) (now (counts .entry)) from r ⌝ }
-{
-    let mut k = from;
-    while k < n {
-        if either(counts[lefts[k]], counts[rights[k]]) {
-            return k;
-        }
-        k = k + 1;
-    }
-    k
 }

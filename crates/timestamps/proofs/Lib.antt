@@ -5,5 +5,4 @@ pub mod Join
 pub mod Maxima
 pub mod Order
 pub mod Relations
-pub mod Spans
 pub mod Steps

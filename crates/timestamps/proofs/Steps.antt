@@ -1,32 +1,23 @@
 -- The loops over the eight logger places: what is left from place k on.
 use mathlib.Core.Path.{_≡_, refl, sym, ap, _∙_}
-use mathlib.Core.Bool.{Bool, true, false, not, _&&_, _||_, or-false, and-true}
-use mathlib.Core.List.{List, [], _∷_, _++_, map, append-nil}
-use mathlib.Core.Logic.{⊎-elim}
-use Prim.Native.Nat.{ℕ, zero, _+_, _-_, _≤_, _<_}
+use mathlib.Core.Bool.{Bool, true, false, not, _&&_, _||_, and-true}
+use mathlib.Core.List.{List, _++_, map, append-nil}
+use Prim.Native.Nat.{ℕ, _+_, _-_, _≤_, _<_}
 use native.Mathlib.Omega.{arith}
 use lib.ListN.{length, replicate, set, take, length-map}
 use Rattle.sequences.specs.Choice.{pick}
-use Rattle.sequences.specs.Loops.{fold}
 use Rattle.sequences.specs.Range.{range}
 use Rattle.sequences.specs.Select.{filter, any, all}
 use Rattle.sequences.proofs.Arrays.{fill-map, fill-map-end}
-use Rattle.sequences.proofs.Booleans.{either-way}
-use Rattle.sequences.proofs.Range.{any-turn, any-done, all-turn, all-done, each-turn, each-done, length-range, getD-range}
-use Rattle.sequences.proofs.Select.{any-map, any-filter, all-map, all-filter, all-and, all-not, all-same, fold-select}
-use Rattle.timestamps.specs.declared.LocalTick.{LocalTick}
+use Rattle.sequences.proofs.Range.{all-turn, all-done, length-range, getD-range}
+use Rattle.sequences.proofs.Select.{all-map, all-filter, all-and, all-not, all-same}
 use Rattle.timestamps.specs.declared.Timestamp.{Timestamp}
 use Rattle.timestamps.specs.declared.CompositeTimestamp.{CompositeTimestamp}
-use Rattle.timestamps.specs.declared.Met.{Met}
 use Rattle.timestamps.specs.declared.Relation.{Relation}
-use Rattle.timestamps.specs.declared.Span.{Span}
 use Rattle.timestamps.specs.Comparison.{allBefore, allConcurrent, weaklyBefore, relationOf}
-use Rattle.timestamps.specs.Composite.{loggerPlaces, members, presentAt, stampAt, tickZero}
-use Rattle.timestamps.specs.Join.{joinOf}
+use Rattle.timestamps.specs.Composite.{loggerPlaces, members, presentAt, stampAt}
 use Rattle.timestamps.specs.Order.{before, concurrent}
-use Rattle.timestamps.specs.Steps.{metIn, relatedAt, relatedTo, addedTo, addedAt, latestIn, maximalAt, maximalBy, metBy, spanOf}
-use Rattle.timestamps.proofs.Spans.{any-members, met-by, met-is}
-use Rattle.timestamps.proofs.Join.{Sized, joinOf-latest, joinOf-places, members-placeable}
+use Rattle.timestamps.specs.Steps.{Met, metIn, relatedAt, relatedTo}
 
 -- ---- a test over a composite's members, as one over the places
 all-members : (p : Timestamp → Bool) (c : CompositeTimestamp) → all p (members c) ≡ all (λ k. not (presentAt c k) || p (stampAt c k)) loggerPlaces
@@ -66,10 +57,10 @@ module _ (ratio : ℕ) (a b : CompositeTimestamp) where
     «weakly_before» = sym (sym (all-not (λ t. any (before ratio t) (members a)) (members b)) ∙ all-members (λ t. not (any (before ratio t) (members a))) b) i;
   }
 
-  related-fields : (r : Relation) (k : ℕ) → relatedAt ratio (spanOf ratio a) a b r k
+  related-fields : (r : Relation) (k : ℕ) → relatedAt ratio a b r k
       ≡ record { before = r .before && earlierAt k; concurrent = r .concurrent && apartAt k; «weakly_before» = r .«weakly_before» && notLaterAt k }
   unfolding relatedAt metIn
-  related-fields r k = ap (λ m. pick (presentAt b k) (relatedTo r m) r) (met-by ratio a (stampAt b k)) ∙ go (presentAt b k) r (metIn ratio a (stampAt b k))
+  related-fields r k = go (presentAt b k) r (metIn ratio a (stampAt b k))
     where
       go : (p : Bool) (r : Relation) (m : Met) → pick p (relatedTo r m) r ≡ record {
         before = r .before && (not p || m .earlier);
@@ -79,9 +70,9 @@ module _ (ratio : ℕ) (a b : CompositeTimestamp) where
       go true r m = refl
       go false r m = λ i. record { before = sym (and-true (r .before)) i; concurrent = sym (and-true (r .concurrent)) i; «weakly_before» = sym (and-true (r .«weakly_before»)) i }
 
-  pub related-turn : (x : Span) (r r′ : Relation) (k : ℕ) → k < 8 → x ≡ spanOf ratio a → r′ ≡ relatedAt ratio x a b r k → relatedFrom r′ (k + 1) ≡ relatedFrom r k
+  pub related-turn : (r r′ : Relation) (k : ℕ) → k < 8 → r′ ≡ relatedAt ratio a b r k → relatedFrom r′ (k + 1) ≡ relatedFrom r k
   unfolding relatedFrom
-  related-turn x r r′ k h q e = rw (e, q, related-fields r k) (λ i. record {
+  related-turn r r′ k h e = rw (e, related-fields r k) (λ i. record {
     before = all-turn earlierAt 8 k (r .before) h i;
     concurrent = all-turn apartAt 8 k (r .concurrent) h i;
     «weakly_before» = all-turn notLaterAt 8 k (r .«weakly_before») h i;
@@ -94,11 +85,6 @@ module _ (ratio : ℕ) (a b : CompositeTimestamp) where
     concurrent = sym (all-done apartAt 8 k (r .concurrent) h) i;
     «weakly_before» = sym (all-done notLaterAt 8 k (r .«weakly_before») h) i;
   }
-
--- ---- the timestamps of b added to a
-pub latest-start : (a b : CompositeTimestamp) → fold (addedAt b) (range 0 8) a ≡ latestIn a (members b)
-unfolding latestIn members addedAt
-latest-start a b = sym (fold-select addedTo (stampAt b) (presentAt b) loggerPlaces a)
 
 -- ---- an array of eight filled from the front
 unfoldable pub filledTo : {B : Type 0} → B → (ℕ → B) → ℕ → List B
@@ -120,23 +106,3 @@ module _ {B : Type 0} (z : B) (f : ℕ → B) where
   filled-end l k a b e =
       let n : length loggerPlaces ≡ 8 = length-range 0 8 in
       e ∙ fill-map-end 8 z f loggerPlaces k (omega arith) ∙ rw (length-map loggerPlaces f, n) (append-nil (map f loggerPlaces))
-
--- a place's timestamp is one of the join's
-pub maximal-is : (ratio : ℕ) (c : CompositeTimestamp) (k : ℕ) (x : Span) (b : Bool) → x ≡ spanOf ratio c → b ≡ maximalBy ratio x c k → b ≡ maximalAt ratio c k
-unfolding maximalBy maximalAt metIn
-maximal-is ratio c k x b e f = f ∙ ap (λ (m : Met). presentAt c k && not (m .later)) (met-is ratio c (stampAt c k) x (metBy ratio x c (stampAt c k)) e refl)
-
--- and so is its tick
-pub tick-kept : (ratio : ℕ) (c : CompositeTimestamp) (k : ℕ) (b : Bool) (t : LocalTick) → b ≡ maximalAt ratio c k → t ≡ pick b (stampAt c k .tick) tickZero
-    → t ≡ pick (maximalAt ratio c k) (stampAt c k .tick) tickZero
-tick-kept ratio c k b t e f = rw (← e) f
-
--- ---- the join of two composites
-pub settled-is : (ratio : ℕ) (c : CompositeTimestamp) (present : List Bool) (ticks : List LocalTick)
-    → present ≡ map (maximalAt ratio c) loggerPlaces → ticks ≡ map (λ k. pick (maximalAt ratio c k) (stampAt c k .tick) tickZero) loggerPlaces
-    → _≡_ {A = CompositeTimestamp} (record { present = present; ticks = ticks }) (joinOf ratio (members c))
-settled-is ratio c present ticks p q = (λ i. record { present = p i; ticks = q i }) ∙ joinOf-places ratio c
-
-pub joined-is : (ratio : ℕ) (a b c r : CompositeTimestamp) → Sized a → c ≡ latestIn a (members b) → r ≡ joinOf ratio (members c)
-    → r ≡ joinOf ratio (members a ++ members b)
-joined-is ratio a b c r n e f = f ∙ ap (λ x. joinOf ratio (members x)) e ∙ joinOf-latest ratio a (members b) n (members-placeable b)

@@ -33,7 +33,7 @@ all-combined-requires : tie.Need-all-combined-requires
 all-combined-requires c κs = search needs
 
 emit-one-requires : tie.Need-emit-one-requires
-emit-one-requires c κs = let start = c .before .before .before .before .before .before .before .before in (start .pre .1, start .pre .2)
+emit-one-requires c κs = c .before .before .before .before .before .before .before .before .pre
 
 same-length : tie.Need-same-length
 same-length c = search needs

@@ -17,16 +17,28 @@ use Rattle.contexts.proofs.before_arrival.Statement.{statement}
 use Rattle.contexts.proofs.before_arrival.Tie as tie
 
 abbrev Inv-loop : tie.InvT-loop
-Inv-loop list waiting o ticks ratio n marks₀ i₀ marks i = (i ≤ n) × (marksOf marks ≡ padded 16 (take i (map (λ w. isBefore ratio w (occurrenceOf ticks o)) (held ticks list waiting))))
+Inv-loop list waiting o ticks ratio first n marks₀ i₀ marks i = (i ≤ n) × (marksOf marks ≡ padded 16 (take i (map (λ w. isBefore ratio w (occurrenceOf ticks o)) (held ticks list waiting))))
 
 abbrev μ-loop : tie.MeasureT-loop
-μ-loop list waiting o ticks ratio n marks₀ i₀ marks i = n - i
+μ-loop list waiting o ticks ratio first n marks₀ i₀ marks i = n - i
+
+lowest-requires : tie.Need-lowest-requires Inv-loop μ-loop
+lowest-requires c κs = search needs
 
 count-in-requires : tie.Need-count-in-requires Inv-loop μ-loop
 count-in-requires c κs = search needs
 
 loop-holds : tie.Need-loop-holds Inv-loop μ-loop
 loop-holds c = (search needs, marks-none ∙ padded-start 16)
+
+mul-lowest : tie.Need-mul-lowest Inv-loop μ-loop
+mul-lowest c = search needs
+
+index-1-lowest : tie.Need-index-1-lowest Inv-loop μ-loop
+index-1-lowest c = search needs
+
+lowest-requires-2 : tie.Need-lowest-requires-2 Inv-loop μ-loop
+lowest-requires-2 c κs = search needs
 
 mul-before : tie.Need-mul-before Inv-loop μ-loop
 mul-before c = search needs
@@ -35,7 +47,7 @@ index-1-before : tie.Need-index-1-before Inv-loop μ-loop
 index-1-before c = search needs
 
 before-requires : tie.Need-before-requires Inv-loop μ-loop
-before-requires c κs = search needs
+before-requires c κs = (c .before .lowest2 .ensures, c .before .before .before .before .before .before .lowest .ensures)
 
 with-mark-requires : tie.Need-with-mark-requires Inv-loop μ-loop
 with-mark-requires c κs = search needs
@@ -49,14 +61,14 @@ loop-less c = search needs
 loop-again : tie.Need-loop-again Inv-loop μ-loop
 loop-again c =
     let t = c .before in
-    let b = t .before .before .before in
+    let b = t .before .before .before .before .before in
     let q = b .before in
-    let s = q .before in
+    let s = q .before .before in
     let ticks = s .args .ticks .now in
     let r = s .args .list .now in
     let w = s .args .waiting in
     let n : q .count-in .result ≡ length (held ticks r w) = q .count-in .ensures .0 ticks in
-    let in-l : b .loop .i < length (held ticks r w) = omega arith in
+    let in-l : b .loop .i < length (held ticks r w) = omega (arith, t .before .before .before .before .loop-test .taken) in
     (search needs, tested-turn ticks r w (marksOf (b .loop .marks)) (b .loop .i) in-l (search needs) (λ v. isBefore (s .args .ratio) v (occurrenceOf ticks (s .args .o .now))) _ _ (b .loop .inv .1) (t .before2 .ensures) (c .with-mark .ensures))
 
 returns : tie.Need-returns Inv-loop μ-loop
@@ -64,7 +76,7 @@ unfolding seqCandidates
 returns c =
     let b = c .before in
     let q = b .before in
-    let s = q .before in
+    let s = q .before .before in
     let ticks = s .args .ticks .now in
     let r = s .args .list .now in
     let w = s .args .waiting in
@@ -78,8 +90,12 @@ before-arrival-spec =
     (tie.spec
     Inv-loop
     μ-loop
+    lowest-requires
     count-in-requires
     loop-holds
+    mul-lowest
+    index-1-lowest
+    lowest-requires-2
     mul-before
     index-1-before
     before-requires

@@ -1,5 +1,7 @@
 -- A candidate that no candidate bars.
+use mathlib.Core.List.{[]}
 use borrow.Author.Needs.{needs}
+use lib.ListN.{getD}
 use Rattle.sequences.specs.Marks.{marked}
 use Rattle.occurrences.specs.Packed.{held, occurrenceOf}
 use Rattle.waiting_lists.specs.Marks.{marksOf}
@@ -18,7 +20,7 @@ returns-2 c =
     let e = c .before in
     let a = e .before .args in
     let candidates = marked (held (a .ticks .now) (a .list .now) (a .waiting)) (marksOf (a .candidates)) in
-    taken-unbarred (a .mark) (a .rule) (a .ratio) candidates (occurrenceOf (a .ticks .now) (a .w .now)) (e .if1 .left) _ (c .barred .ensures)
+    taken-unbarred (a .mark) (a .rule) (a .ratio) candidates (occurrenceOf (a .ticks .now) (getD (a .list .now) (a .i) [])) (e .if1 .left) _ (c .barred .ensures)
 
 pub is-taken-spec : {M : Type 1} → statement M
 is-taken-spec = tie.close (tie.spec barred-requires returns returns-2)

@@ -19,11 +19,11 @@ use Rattle.contexts.proofs.taken_by.Statement.{statement}
 use Rattle.contexts.proofs.taken_by.Tie as tie
 
 abbrev Inv-loop : tie.InvT-loop
-Inv-loop rule list waiting candidates ticks ratio n marks₀ i₀ marks i =
+Inv-loop rule list waiting candidates ticks ratio n lows marks₀ i₀ marks i =
     (i ≤ n) × (marksOf marks ≡ padded 16 (take i (zipWith (λ w m. m && takes (takesOf rule) ratio (marked (held ticks list waiting) (marksOf candidates)) w) (held ticks list waiting) (marksOf candidates))))
 
 abbrev μ-loop : tie.MeasureT-loop
-μ-loop rule list waiting candidates ticks ratio n marks₀ i₀ marks i = n - i
+μ-loop rule list waiting candidates ticks ratio n lows marks₀ i₀ marks i = n - i
 
 count-in-requires : tie.Need-count-in-requires Inv-loop μ-loop
 count-in-requires c κs = search needs
@@ -42,20 +42,21 @@ returns c =
     let few : q .count-in .result ≤ 16 = q .count-in .ensures .1 in
     every-taken (s .args .rule) (s .args .ratio) (held ticks r w) (s .args .candidates) (c .all-waiting .result) (c .before .if1 .taken) (omega arith) (c .all-waiting .ensures (held ticks r w) (omega arith))
 
+lows-of-requires : tie.Need-lows-of-requires Inv-loop μ-loop
+lows-of-requires c κs = search needs
+
 loop-holds : tie.Need-loop-holds Inv-loop μ-loop
 loop-holds c = (search needs, marks-none ∙ padded-start 16)
 
 is-marked-requires : tie.Need-is-marked-requires Inv-loop μ-loop
 is-marked-requires c κs = search needs
 
-mul-is-taken : tie.Need-mul-is-taken Inv-loop μ-loop
-mul-is-taken c = search needs
-
-index-1-is-taken : tie.Need-index-1-is-taken Inv-loop μ-loop
-index-1-is-taken c = search needs
-
 is-taken-requires : tie.Need-is-taken-requires Inv-loop μ-loop
-is-taken-requires c κs = search needs
+is-taken-requires c κs =
+    let b = c .before .before .before in
+    let q = b .before .before .before in
+    let n = q .count-in .ensures .0 (q .before .args .ticks .now) in
+    (omega (arith, n), rw n at (b .before .lows-of .ensures))
 
 with-mark-requires : tie.Need-with-mark-requires Inv-loop μ-loop
 with-mark-requires c κs = search needs
@@ -71,7 +72,7 @@ loop-again c =
     let k = c .before in
     let m = k .before .before in
     let b = m .before .before in
-    let q = b .before .before in
+    let q = b .before .before .before in
     let s = q .before in
     let ticks = s .args .ticks .now in
     let r = s .args .list .now in
@@ -87,7 +88,7 @@ returns-2 : tie.Need-returns-2 Inv-loop μ-loop
 unfolding takenOf
 returns-2 c =
     let b = c .before in
-    let q = b .before .before in
+    let q = b .before .before .before in
     let s = q .before in
     let ticks = s .args .ticks .now in
     let r = s .args .list .now in
@@ -108,10 +109,9 @@ taken-by-spec =
     count-in-requires
     all-waiting-requires
     returns
+    lows-of-requires
     loop-holds
     is-marked-requires
-    mul-is-taken
-    index-1-is-taken
     is-taken-requires
     with-mark-requires
     add-i

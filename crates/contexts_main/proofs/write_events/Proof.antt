@@ -5,13 +5,13 @@ use Rattle.contexts_main.proofs.write_events.Statement.{statement}
 use Rattle.contexts_main.proofs.write_events.Tie as tie
 
 abbrev Inv-loop : tie.InvT-loop
-Inv-loop o ticks set i₀ t5 i = i ≤ 128
+Inv-loop o set i₀ t5 i = i ≤ 128
 
 abbrev μ-loop : tie.MeasureT-loop
-μ-loop o ticks set i₀ t5 i = 128 - i
+μ-loop o set i₀ t5 i = 128 - i
 
-unpacked-requires : tie.Need-unpacked-requires Inv-loop μ-loop
-unpacked-requires c κs = search needs
+events-of-requires : tie.Need-events-of-requires Inv-loop μ-loop
+events-of-requires c κs = search needs
 
 loop-holds : tie.Need-loop-holds Inv-loop μ-loop
 loop-holds c = search needs
@@ -43,7 +43,7 @@ write-events-spec =
     (tie.spec
     Inv-loop
     μ-loop
-    unpacked-requires
+    events-of-requires
     loop-holds
     write-element-requires
     add-i

@@ -5,10 +5,10 @@ use Rattle.contexts_main.proofs.write_waiting.Statement.{statement}
 use Rattle.contexts_main.proofs.write_waiting.Tie as tie
 
 abbrev Inv-loop : tie.InvT-loop
-Inv-loop list waiting ticks n i₀ i = (i ≤ n) × (n ≤ 16)
+Inv-loop list waiting n i₀ i = (i ≤ n) × (n ≤ 16)
 
 abbrev μ-loop : tie.MeasureT-loop
-μ-loop list waiting ticks n i₀ i = n - i
+μ-loop list waiting n i₀ i = n - i
 
 count-requires : tie.Need-count-requires Inv-loop μ-loop
 count-requires c κs = search needs

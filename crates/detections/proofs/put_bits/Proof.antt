@@ -2,12 +2,13 @@
 use Prim.Native.Nat.{_+_, _^_, _<_}
 use native.Mathlib.Omega.{arith}
 use lib.Count.{trailingZeros, trailing-le}
+use Rattle.event_sets.proofs.Words.{rest-less}
 use Rattle.forms.specs.Bytes.{bigEndian}
 use Rattle.forms.specs.Forms.{number, each}
 use Rattle.detections.specs.Steps.{bitsFrom}
-use Rattle.detections.proofs.Events.{bits-turn, bits-fewer, bits-end}
+use Rattle.detections.proofs.Events.{bits-turn, bits-end}
 use Rattle.detections.proofs.Sizes.{length-two}
-use Rattle.detections.proofs.Writing.{Writes, writes-start, writes-room, writes-turn, writes-end}
+use Rattle.detections.proofs.Writing.{Writes, writes-room, writes-turn, writes-end}
 use borrow.Author.Needs.{needs}
 use Rattle.detections.proofs.put_bits.Statement.{statement}
 use Rattle.detections.proofs.put_bits.Tie as tie
@@ -42,7 +43,7 @@ sub-rest c = search needs
 loop-less : tie.Need-loop-less Inv-loop μ-loop
 loop-less c =
     let t = c .before .before .before .before in
-    bits-fewer (t .before .loop .rest) (t .loop-test .taken)
+    rest-less (t .before .loop .rest) (t .loop-test .taken)
 
 loop-again : tie.Need-loop-again Inv-loop μ-loop
 loop-again c =
@@ -50,7 +51,7 @@ loop-again c =
     let a = t .before in
     let first = a .before .before .args .first in
     let rest = a .loop .rest in
-    (omega (arith, bits-fewer rest (t .loop-test .taken), a .loop .inv .0), writes-turn (a .loop .inv .1) (bits-turn first rest (t .loop-test .taken) (a .loop .inv .0)) (c .before .before .put-u16 .ensures))
+    (omega (arith, rest-less rest (t .loop-test .taken), a .loop .inv .0), writes-turn (a .loop .inv .1) (bits-turn first rest (t .loop-test .taken) (a .loop .inv .0)) (c .before .before .put-u16 .ensures))
 
 same-length : tie.Need-same-length Inv-loop μ-loop
 same-length c = search needs

@@ -18,7 +18,7 @@ add-from c = search needs
 put-stamps-requires : tie.Need-put-stamps-requires
 put-stamps-requires c κs =
     let s = c .before .before in
-    entries-room stamp stamp-laws (map (written (now (s .args .loggers))) (members (occurrenceOf (now (s .args .ticks)) (now (s .args .o)) .latest))) (now (s .args .out)) (s .args .at) (s .pre)
+    (s .pre .0, entries-room stamp stamp-laws (map (written (now (s .args .loggers))) (members (occurrenceOf (now (s .args .ticks)) (now (s .args .o)) .latest))) (now (s .args .out)) (s .args .at) (s .pre .1))
 
 sub-put-u16 : tie.Need-sub-put-u16
 sub-put-u16 c = search needs
@@ -27,7 +27,7 @@ put-u16-requires : tie.Need-put-u16-requires
 put-u16-requires c κs =
     let put = c .before .before .before in
     let s = put .before .before .before in
-    count-room stamp stamp-laws (map (written (now (s .args .loggers))) (members (occurrenceOf (now (s .args .ticks)) (now (s .args .o)) .latest))) (now (s .args .out)) (s .args .at) (s .pre) (put .put-stamps .ensures)
+    count-room stamp stamp-laws (map (written (now (s .args .loggers))) (members (occurrenceOf (now (s .args .ticks)) (now (s .args .o)) .latest))) (now (s .args .out)) (s .args .at) (s .pre .1) (put .put-stamps .ensures)
 
 same-length : tie.Need-same-length
 same-length c = search needs
@@ -39,8 +39,8 @@ returns c =
     let s = put .before .before .before in
     let a = s .args in
     let stamps = map (written (now (a .loggers))) (members (occurrenceOf (now (a .ticks)) (now (a .o)) .latest)) in
-    let counted = entries-counted stamp stamp-laws stamps (now (a .out)) (a .at) (s .pre) (put .put-stamps .ensures) in
-    section-done stamp stamp-laws stamps (now (a .out)) (a .at) (s .pre) (put .put-stamps .ensures) (omega (arith, counted)) (count .put-u16 .ensures)
+    let counted = entries-counted stamp stamp-laws stamps (now (a .out)) (a .at) (s .pre .1) (put .put-stamps .ensures) in
+    section-done stamp stamp-laws stamps (now (a .out)) (a .at) (s .pre .1) (put .put-stamps .ensures) (omega (arith, counted)) (count .put-u16 .ensures)
 
 pub put-stamp-section-spec : {M : Type 1} → statement M
 put-stamp-section-spec =

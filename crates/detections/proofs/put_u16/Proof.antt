@@ -1,7 +1,7 @@
 -- `detections::put_u16`: two stores.
 use native.Mathlib.Omega.{arith}
 use lib.ListN.{length-set}
-use Rattle.detections.proofs.Sizes.{wrote-two}
+use Rattle.detections.proofs.Sizes.{wrote-number}
 use borrow.Author.Needs.{needs}
 use Rattle.detections.proofs.put_u16.Statement.{statement}
 use Rattle.detections.proofs.put_u16.Tie as tie
@@ -28,7 +28,7 @@ same-length : tie.Need-same-length
 same-length c = search needs
 
 returns : tie.Need-returns
-returns c = wrote-two _ _ _ (c .pre)
+returns c = wrote-number 1 _ _ _ (c .pre)
 
 pub put-u16-spec : {M : Type 1} → statement M
 put-u16-spec =

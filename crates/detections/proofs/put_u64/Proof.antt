@@ -1,51 +1,116 @@
--- `detections::put_u64`: four times two bytes.
-use Prim.Native.Nat.{_≤_}
-use denote.Ref.{now}
+-- `detections::put_u64`: eight stores.
 use native.Mathlib.Omega.{arith}
-use lib.ListN.{length}
-use Rattle.forms.specs.Bytes.{bigEndian}
-use Rattle.detections.proofs.Sizes.{eight-bytes}
-use Rattle.detections.proofs.Writing.{wrote-then}
+use lib.ListN.{length-set}
+use Rattle.detections.proofs.Sizes.{wrote-number}
 use borrow.Author.Needs.{needs}
 use Rattle.detections.proofs.put_u64.Statement.{statement}
 use Rattle.detections.proofs.put_u64.Tie as tie
 
-put-u16-requires : tie.Need-put-u16-requires
-put-u16-requires c κs = search needs
+cast-out : tie.Need-cast-out
+cast-out c = search needs
 
-put-u16-requires-2 : tie.Need-put-u16-requires-2
-unfolding bigEndian
-put-u16-requires-2 c κs = omega arith
+slice-write-out : tie.Need-slice-write-out
+slice-write-out c = search needs
 
-put-u16-requires-3 : tie.Need-put-u16-requires-3
-unfolding bigEndian
-put-u16-requires-3 c κs = omega arith
+cast-out-2 : tie.Need-cast-out-2
+cast-out-2 c = search needs
 
-put-u16-requires-4 : tie.Need-put-u16-requires-4
-unfolding bigEndian
-put-u16-requires-4 c κs = omega arith
+add-out : tie.Need-add-out
+add-out c = search needs
+
+slice-write-out-2 : tie.Need-slice-write-out-2
+slice-write-out-2 c = simp length-set (omega arith)
+
+cast-out-3 : tie.Need-cast-out-3
+cast-out-3 c = search needs
+
+add-out-2 : tie.Need-add-out-2
+add-out-2 c = search needs
+
+slice-write-out-3 : tie.Need-slice-write-out-3
+slice-write-out-3 c = simp length-set (omega arith)
+
+cast-out-4 : tie.Need-cast-out-4
+cast-out-4 c = search needs
+
+add-out-3 : tie.Need-add-out-3
+add-out-3 c = search needs
+
+slice-write-out-4 : tie.Need-slice-write-out-4
+slice-write-out-4 c = simp length-set (omega arith)
+
+cast-out-5 : tie.Need-cast-out-5
+cast-out-5 c = search needs
+
+add-out-4 : tie.Need-add-out-4
+add-out-4 c = search needs
+
+slice-write-out-5 : tie.Need-slice-write-out-5
+slice-write-out-5 c = simp length-set (omega arith)
+
+cast-out-6 : tie.Need-cast-out-6
+cast-out-6 c = search needs
+
+add-out-5 : tie.Need-add-out-5
+add-out-5 c = search needs
+
+slice-write-out-6 : tie.Need-slice-write-out-6
+slice-write-out-6 c = simp length-set (omega arith)
+
+cast-out-7 : tie.Need-cast-out-7
+cast-out-7 c = search needs
+
+add-out-6 : tie.Need-add-out-6
+add-out-6 c = search needs
+
+slice-write-out-7 : tie.Need-slice-write-out-7
+slice-write-out-7 c = simp length-set (omega arith)
+
+cast-out-8 : tie.Need-cast-out-8
+cast-out-8 c = search needs
+
+add-out-7 : tie.Need-add-out-7
+add-out-7 c = search needs
+
+slice-write-out-8 : tie.Need-slice-write-out-8
+slice-write-out-8 c = simp length-set (omega arith)
+
+add-result : tie.Need-add-result
+add-result c = search needs
 
 same-length : tie.Need-same-length
-same-length c = search needs
+same-length c = simp length-set
 
 returns : tie.Need-returns
-returns c =
-    let w4 = c .before .before in
-    let w3 = w4 .before .before .before .before in
-    let w2 = w3 .before .before .before .before in
-    let w1 = w2 .before .before .before .before in
-    let a = w1 .before .before .before .args in
-    let in-out : a .at ≤ length (now (a .out)) = omega arith in
-    rw (eight-bytes (a .v))
-    (wrote-then in-out (wrote-then in-out (wrote-then in-out (w1 .put-u16 .ensures) (w2 .put-u162 .ensures)) (w3 .put-u163 .ensures)) (w4 .put-u164 .ensures))
+returns c = wrote-number 7 _ _ _ (c .pre)
 
 pub put-u64-spec : {M : Type 1} → statement M
 put-u64-spec =
     tie.close
     (tie.spec
-    put-u16-requires
-    put-u16-requires-2
-    put-u16-requires-3
-    put-u16-requires-4
+    cast-out
+    slice-write-out
+    cast-out-2
+    add-out
+    slice-write-out-2
+    cast-out-3
+    add-out-2
+    slice-write-out-3
+    cast-out-4
+    add-out-3
+    slice-write-out-4
+    cast-out-5
+    add-out-4
+    slice-write-out-5
+    cast-out-6
+    add-out-5
+    slice-write-out-6
+    cast-out-7
+    add-out-6
+    slice-write-out-7
+    cast-out-8
+    add-out-7
+    slice-write-out-8
+    add-result
     same-length
     returns)

@@ -15,13 +15,13 @@ element-copy-out-t15 c = search needs
 put-u16-requires : tie.Need-put-u16-requires
 put-u16-requires c κs =
     let s = c .before .before .before .before in
-    node-room _ _ (occurrenceOf (now (s .args .ticks)) (now (s .args .o))) (now (s .args .out)) _ (s .pre)
+    node-room _ _ (occurrenceOf (now (s .args .ticks)) (now (s .args .o))) (now (s .args .out)) _ (s .pre .1)
 
 put-stamp-section-requires : tie.Need-put-stamp-section-requires
 put-stamp-section-requires c κs =
     let w₁ = c .before .before .before in
     let s = w₁ .before .before .before .before .before in
-    stamps-room _ _ (occurrenceOf (now (s .args .ticks)) (now (s .args .o))) _ _ (s .pre) (w₁ .put-u16 .ensures)
+    (s .pre .0, stamps-room _ _ (occurrenceOf (now (s .args .ticks)) (now (s .args .o))) _ _ (s .pre .1) (w₁ .put-u16 .ensures))
 
 put-event-section-requires : tie.Need-put-event-section-requires
 unfolding fromWords wordsOf
@@ -29,7 +29,7 @@ put-event-section-requires c κs =
     let w₂ = c .before .before .before in
     let w₁ = w₂ .before .before .before .before in
     let s = w₁ .before .before .before .before .before in
-    events-room _ _ (occurrenceOf (now (s .args .ticks)) (now (s .args .o))) _ _ (s .pre) (w₁ .put-u16 .ensures) {b = w₂ .put-stamp-section .result} {l₂ = w₂ .put-stamp-section .last .0} (w₂ .put-stamp-section .ensures)
+    events-room _ _ (occurrenceOf (now (s .args .ticks)) (now (s .args .o))) _ _ (s .pre .1) (w₁ .put-u16 .ensures) {b = w₂ .put-stamp-section .result} {l₂ = w₂ .put-stamp-section .last .0} (w₂ .put-stamp-section .ensures)
 
 same-length : tie.Need-same-length
 same-length c = search needs
@@ -41,7 +41,7 @@ returns c =
     let w₂ = w₃ .before .before .before .before in
     let w₁ = w₂ .before .before .before .before in
     let s = w₁ .before .before .before .before .before in
-    all-done _ _ (occurrenceOf (now (s .args .ticks)) (now (s .args .o))) _ _ (s .pre) (w₁ .put-u16 .ensures) (w₂ .put-stamp-section .ensures) (w₃ .put-event-section .ensures)
+    all-done _ _ (occurrenceOf (now (s .args .ticks)) (now (s .args .o))) _ _ (s .pre .1) (w₁ .put-u16 .ensures) (w₂ .put-stamp-section .ensures) (w₃ .put-event-section .ensures)
 
 pub write-spec : {M : Type 1} → statement M
 write-spec =

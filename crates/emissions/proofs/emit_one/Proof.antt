@@ -23,7 +23,7 @@ returns : tie.Need-returns
 returns c =
     let told = c .before in
     let start = told .before .before in
-    (emit-stopped _ _ _ _ _ (sym (told .is-reached .ensures) ∙ c .if1 .taken), beyond-none (start .pre .0) (start .pre .1))
+    (emit-stopped _ _ _ _ _ (sym (told .is-reached .ensures) ∙ c .if1 .taken), beyond-none (start .pre .1) (start .pre .2))
 
 stopped-requires : tie.Need-stopped-requires
 stopped-requires c κs = search needs
@@ -39,7 +39,7 @@ returns-2 c =
     let many = length-held (now (start .args .ticks)) row (start .args .e .made) in
     let r = c .stopped .ensures in (
       ap (λ x. emitOf (now (start .args .ticks)) x row (now (start .args .out))) r ∙ emit-ninth _ _ _ _ _ (sym (told .is-reached .ensures) ∙ go .if1 .left) (omega (arith, many, eight, full .if2 .taken)),
-      rw r (beyond-none (start .pre .0) (start .pre .1)),
+      rw r (beyond-none (start .pre .1) (start .pre .2)),
     )
 
 sub-left : tie.Need-sub-left
@@ -60,12 +60,12 @@ returns-3 c =
     let told = go .before in
     let start = told .before .before in
     let size = no-room (now (start .args .loggers)) (start .args .place) (occurrenceOf (now (start .args .ticks)) (now (start .args .o))) (length (now (start .args .out)) - start .args .e .at) (fit .fits2 .ensures) (full .if3 .taken) in
-    let l : length (take (start .args .e .at) (now (start .args .out))) ≡ start .args .e .at = length-take-le _ _ (start .pre .0) in
+    let l : length (take (start .args .e .at) (now (start .args .out))) ≡ start .args .e .at = length-take-le _ _ (start .pre .1) in
     let many = length-held (now (start .args .ticks)) (now (start .args .made)) (start .args .e .made) in
     let r = c .stopped2 .ensures in (
       ap (λ x. emitOf (now (start .args .ticks)) x (now (start .args .made)) (now (start .args .out))) r
-          ∙ emit-no-room _ _ _ _ _ (sym (told .is-reached .ensures) ∙ go .if1 .left) (omega (arith, many, few .if2 .left)) (omega (arith, size, l, start .pre .0)),
-      rw r (beyond-none (start .pre .0) (start .pre .1)),
+          ∙ emit-no-room _ _ _ _ _ (sym (told .is-reached .ensures) ∙ go .if1 .left) (omega (arith, many, few .if2 .left)) (omega (arith, size, l, start .pre .1)),
+      rw r (beyond-none (start .pre .1) (start .pre .2)),
     )
 
 write-requires : tie.Need-write-requires
@@ -74,7 +74,7 @@ write-requires c κs =
     let fit = room .before in
     let start = fit .before .before .before .before .before .before .before in
     let size = has-room (now (start .args .loggers)) (start .args .place) (occurrenceOf (now (start .args .ticks)) (now (start .args .o))) (length (now (start .args .out)) - start .args .e .at) (fit .fits2 .ensures) (room .if3 .left) in
-    omega (arith, size, start .pre .0)
+    (start .pre .0, omega (arith, size, start .pre .1))
 
 mul-t17 : tie.Need-mul-t17
 mul-t17 c = search needs
@@ -106,15 +106,15 @@ returns-4 c =
     let ticks = now (start .args .ticks) in
     let o = occurrenceOf ticks (now (start .args .o)) in
     let size = has-room (now (start .args .loggers)) (start .args .place) o (length (now (start .args .out)) - start .args .e .at) (fit .fits2 .ensures) (room .if3 .left) in
-    let l : length (take (start .args .e .at) (now (start .args .out))) ≡ start .args .e .at = length-take-le _ _ (start .pre .0) in
+    let l : length (take (start .args .e .at) (now (start .args .out))) ≡ start .args .e .at = length-take-le _ _ (start .pre .1) in
     let row = now (start .args .made) in
     let n = start .args .e .made in
     let many = length-held ticks row n in
     let eight : length row ≡ 8 = search needs in
     let in-row : n < length row = omega (arith, eight, few .if2 .left) in
     let w = write .write .ensures in (
-      emit-go _ _ _ _ _ _ _ _ (sym (told .is-reached .ensures) ∙ go .if1 .left) (omega (arith, many, few .if2 .left)) (omega (arith, size, l, start .pre .0)) (held-more ticks row n (now (start .args .o)) in-row) (wrote-prefix (start .pre .0) w) (c .number-of .ensures),
-      beyond-finding (findingOf (now (start .args .loggers)) (start .args .place) (o .latest) (o .events)) (omega (arith, size, start .pre .0)) (start .pre .1) w,
+      emit-go _ _ _ _ _ _ _ _ (sym (told .is-reached .ensures) ∙ go .if1 .left) (omega (arith, many, few .if2 .left)) (omega (arith, size, l, start .pre .1)) (held-more ticks row n (now (start .args .o)) in-row) (wrote-prefix (start .pre .1) w) (c .number-of .ensures),
+      beyond-finding (findingOf (now (start .args .loggers)) (start .args .place) (o .latest) (o .events)) (omega (arith, size, start .pre .1)) (start .pre .2) w,
     )
 
 pub emit-one-spec : {M : Type 1} → statement M

@@ -1,62 +1,48 @@
--- The word one above the number so far is the lowest at the places before k.
-use Prim.Native.Nat.{_+_, _%_, _^_, _≤_, _-_}
-use mathlib.Core.Path.{_≡_, _∙_}
-use native.Mathlib.Omega.{arith}
-use Rattle.occurrences.specs.Packed.{wordsOf}
-use Rattle.occurrences.specs.Steps.{Lowest}
-use Rattle.occurrences.proofs.Steps.{lowest-start, lowest-turn}
-use Rattle.occurrences.proofs.Words.{wordAt}
+-- The first four places, and the others where there are any.
 use borrow.Author.Needs.{needs}
+use Rattle.occurrences.proofs.Bytes.{lowest-all, lowest-first}
 use Rattle.occurrences.proofs.lowest.Statement.{statement}
 use Rattle.occurrences.proofs.lowest.Tie as tie
 
-abbrev Inv-loop : tie.InvT-loop
-Inv-loop o ticks low₀ k₀ low k = (k ≤ 8) × Lowest k (wordAt (wordsOf ticks o)) ((low + 1) % 2 ^ 64)
+element-copy-out-w : tie.Need-element-copy-out-w
+element-copy-out-w c = search needs
 
-abbrev μ-loop : tie.MeasureT-loop
-μ-loop o ticks low₀ k₀ low k = 8 - k
+lowest-of-four-requires : tie.Need-lowest-of-four-requires
+lowest-of-four-requires c κs = search needs
 
-loop-holds : tie.Need-loop-holds Inv-loop μ-loop
-loop-holds c = (search needs, lowest-start _)
-
-word-at-requires : tie.Need-word-at-requires Inv-loop μ-loop
-word-at-requires c κs = search needs
-
-wrapping-sub-u64-requires : tie.Need-wrapping-sub-u64-requires Inv-loop μ-loop
-wrapping-sub-u64-requires c κs = search needs
-
-lower-requires : tie.Need-lower-requires Inv-loop μ-loop
-lower-requires c κs = search needs
-
-add-k : tie.Need-add-k Inv-loop μ-loop
-add-k c = search needs
-
-loop-less : tie.Need-loop-less Inv-loop μ-loop
-loop-less c = search needs
-
-loop-again : tie.Need-loop-again Inv-loop μ-loop
-loop-again c =
-    let at = c .before .before .before .before in
-    (search needs, lowest-turn _ _ _ _ (rw (c .before .wrapping-sub-u64 .ensures ∙ c .before .before .word-at .ensures) at (c .lower .ensures)) (at .loop .inv .1))
-
-wrapping-add-u64-requires : tie.Need-wrapping-add-u64-requires Inv-loop μ-loop
+wrapping-add-u64-requires : tie.Need-wrapping-add-u64-requires
 wrapping-add-u64-requires c κs = search needs
 
-returns : tie.Need-returns Inv-loop μ-loop
-returns c = let e : c .before .before .loop .k ≡ 8 = omega (arith, c .before .before .loop .inv .0, c .before .loop-test .left) in rw (c .wrapping-add-u64 .ensures) (rw e at (c .before .before .loop .inv .1))
+returns : tie.Need-returns
+returns c =
+    let s = c .before .before .before .before in
+    rw (c .wrapping-add-u64 .ensures) (lowest-first (s .args .ticks .now) (s .args .o .now) _ (c .before .before .lowest-of-four .ensures) (s .pre) (c .before .if1 .taken))
+
+lowest-of-four-requires-2 : tie.Need-lowest-of-four-requires-2
+lowest-of-four-requires-2 c κs = search needs
+
+lower-requires : tie.Need-lower-requires
+lower-requires c κs = search needs
+
+wrapping-add-u64-requires-2 : tie.Need-wrapping-add-u64-requires-2
+wrapping-add-u64-requires-2 c κs = search needs
+
+returns-2 : tie.Need-returns-2
+returns-2 c =
+    let r = c .before .before in
+    let f = r .before .before in
+    let s = f .before .before in
+    rw (c .wrapping-add-u642 .ensures) (lowest-all (s .args .ticks .now) (s .args .o .now) _ (f .lowest-of-four .ensures) _ _ (r .lowest-of-four2 .ensures) (c .before .lower .ensures))
 
 pub lowest-spec : {M : Type 1} → statement M
 lowest-spec =
     tie.close
     (tie.spec
-    Inv-loop
-    μ-loop
-    loop-holds
-    word-at-requires
-    wrapping-sub-u64-requires
-    lower-requires
-    add-k
-    loop-less
-    loop-again
+    element-copy-out-w
+    lowest-of-four-requires
     wrapping-add-u64-requires
-    returns)
+    returns
+    lowest-of-four-requires-2
+    lower-requires
+    wrapping-add-u64-requires-2
+    returns-2)

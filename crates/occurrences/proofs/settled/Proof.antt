@@ -1,62 +1,30 @@
--- The bytes before k name those kept.
-use Prim.Native.Nat.{_≤_, _-_}
-use mathlib.Core.Path.{_≡_, ap, _∙_}
+-- Of the eight places; where the upper four have none, of the lower.
 use native.Mathlib.Omega.{arith}
-use lib.ListN.{getD}
-use Rattle.occurrences.specs.Steps.{keptOf, tickAt}
-use Rattle.occurrences.proofs.Bytes.{Made, made-start, made-turn}
+use mathlib.Core.Path.{ap}
+use Rattle.occurrences.specs.Steps.{keptOf}
+use Rattle.occurrences.proofs.Bytes.{named-more, named-none, tick-further, tick-none}
+use Rattle.occurrences.proofs.Joins.{kept-none}
 use borrow.Author.Needs.{needs}
 use Rattle.occurrences.proofs.settled.Statement.{statement}
 use Rattle.occurrences.proofs.settled.Tie as tie
 
-abbrev Inv-loop : tie.InvT-loop
-Inv-loop c f ticks r₀ k₀ r k = (k ≤ 8) × Made (λ j n. getD ticks n 0 ≡ keptOf f (tickAt ticks c j)) k r
+settled-of-four-requires : tie.Need-settled-of-four-requires
+settled-of-four-requires c κs = search needs
 
-abbrev μ-loop : tie.MeasureT-loop
-μ-loop c f ticks r₀ k₀ r k = 8 - k
+returns : tie.Need-returns
+returns c =
+    let start = c .before .before in
+    named-none _ (start .pre) 4 4 _ _ (λ j l. kept-none _ _ (tick-none (start .args .ticks .now) (start .pre) (start .args .c) 4 j (c .if1 .taken))) (c .before .settled-of-four .ensures)
 
-loop-holds : tie.Need-loop-holds Inv-loop μ-loop
-loop-holds c = (search needs, made-start _)
+settled-of-four-requires-2 : tie.Need-settled-of-four-requires-2
+settled-of-four-requires-2 c κs = search needs
 
-event-at-requires : tie.Need-event-at-requires Inv-loop μ-loop
-event-at-requires c κs = search needs
-
-kept-requires : tie.Need-kept-requires Inv-loop μ-loop
-kept-requires c κs = (search needs, c .before .before .before .pre)
-
-mul-r : tie.Need-mul-r Inv-loop μ-loop
-mul-r c = search needs
-
-shl-r : tie.Need-shl-r Inv-loop μ-loop
-shl-r c = search needs
-
-add-k : tie.Need-add-k Inv-loop μ-loop
-add-k c = search needs
-
-loop-less : tie.Need-loop-less Inv-loop μ-loop
-loop-less c = search needs
-
-loop-again : tie.Need-loop-again Inv-loop μ-loop
-loop-again c =
-    let at = c .before .before .before in
-    let e = ap (λ n. keptOf (at .before .args .f) (getD (at .before .args .ticks .now) n 0)) (c .before .event-at .ensures .0) in
-    (search needs, made-turn _ _ _ _ (c .before .before .loop-test .taken) (c .kept .ensures .0) (c .kept .ensures .1 ∙ e) (at .loop .inv .1))
-
-returns : tie.Need-returns Inv-loop μ-loop
-returns c = λ j l. c .before .loop .inv .1 .bytes j (omega (arith, l, c .loop-test .left))
+returns-2 : tie.Need-returns-2
+returns-2 c =
+    let first = c .before .before in
+    let start = first .before in
+    named-more _ 4 4 _ _ _ _ (omega arith) (λ j l. ap (keptOf (start .args .f)) (tick-further (start .args .ticks .now) (start .args .c) 4 j)) (first .settled-of-four .ensures) (c .settled-of-four2 .ensures)
 
 pub settled-spec : {M : Type 1} → statement M
 settled-spec =
-    tie.close
-    (tie.spec
-    Inv-loop
-    μ-loop
-    loop-holds
-    event-at-requires
-    kept-requires
-    mul-r
-    shl-r
-    add-k
-    loop-less
-    loop-again
-    returns)
+    tie.close (tie.spec settled-of-four-requires returns settled-of-four-requires-2 returns-2)

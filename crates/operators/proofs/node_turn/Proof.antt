@@ -29,7 +29,7 @@ or-turn-requires : tie.Need-or-turn-requires
 or-turn-requires c κs =
     let fresh = c .before .before .before .before .before .before .fresh .ensures in
     let start = c .before .before .before .before .before .before .before .before in
-    (omega (arith, fresh .1, start .pre .1), omega (arith, fresh .1, fresh .2, start .pre .2))
+    (start .pre .0, omega (arith, fresh .1, start .pre .1), omega (arith, fresh .1, fresh .2, start .pre .2))
 
 same-length : tie.Need-same-length
 same-length c = c .before .before .or-turn .kept .1 .1 .1 .1 .1 .1 .1 .1 .1 .0

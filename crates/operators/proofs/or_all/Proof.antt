@@ -25,7 +25,7 @@ up-to-requires c κs = search needs
 
 loop-holds : tie.Need-loop-holds Inv-loop μ-loop
 unfolding emittedAll
-loop-holds c = (search needs, refl, beyond-none (c .before .before .before .pre .0) (c .before .before .before .pre .1), refl)
+loop-holds c = (search needs, refl, beyond-none (c .before .before .before .pre .1) (c .before .before .before .pre .2), refl)
 
 mul-emit-one : tie.Need-mul-emit-one Inv-loop μ-loop
 mul-emit-one c = search needs
@@ -34,7 +34,7 @@ index-1-emit-one : tie.Need-index-1-emit-one Inv-loop μ-loop
 index-1-emit-one c = search needs
 
 emit-one-requires : tie.Need-emit-one-requires Inv-loop μ-loop
-emit-one-requires c κs = let a = c .before .before .before .before in (a .loop .inv .2 .within, a .loop .inv .2 .few)
+emit-one-requires c κs = let a = c .before .before .before .before in (a .before .before .before .before .pre .0, a .loop .inv .2 .within, a .loop .inv .2 .few)
 
 add-i : tie.Need-add-i Inv-loop μ-loop
 add-i c = search needs

@@ -9,7 +9,7 @@ or-all-requires : tie.Need-or-all-requires
 or-all-requires c κs = c .before .before .before .pre
 
 or-all-requires-2 : tie.Need-or-all-requires-2
-or-all-requires-2 c κs = let one = c .before .before .before .before .or-all in (one .ensures .1 .within, one .ensures .1 .few)
+or-all-requires-2 c κs = let one = c .before .before .before .before in (one .before .before .before .before .pre .0, one .or-all .ensures .1 .within, one .or-all .ensures .1 .few)
 
 same-length : tie.Need-same-length
 same-length c = c .before .before .or-all2 .kept .1 .1 .1 .1 .1 .1 .1 .0 ∙ c .before .before .before .before .before .before .before .or-all .kept .1 .1 .1 .1 .1 .1 .1 .0

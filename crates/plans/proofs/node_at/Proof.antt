@@ -1,5 +1,8 @@
--- `plans::node_at`: each field reads what the form has at its place.
-use Rattle.plans.proofs.Sections.{node-value}
+-- `plans::node_at`: each field reads what the form has at its place, and fits there.
+use mathlib.Core.Path.{subst, sym}
+use native.Mathlib.Omega.{arith}
+use Rattle.plans.specs.Layout.{node}
+use Rattle.plans.proofs.Sections.{node-laws, node-value}
 use borrow.Author.Needs.{needs}
 use Rattle.plans.proofs.node_at.Statement.{statement}
 use Rattle.plans.proofs.node_at.Tie as tie
@@ -27,8 +30,10 @@ number-at-requires-4 c κs = search needs
 
 returns : tie.Need-returns
 returns c =
-    let a = c .before .before .before .before .before .args in
-    node-value (a .bytes .now) (a .at) _ _ _ _ (c .before .before .before .number-at .ensures) (c .before .before .number-at2 .ensures) (c .before .number-at3 .ensures) (c .number-at4 .ensures)
+    let s = c .before .before .before .before in
+    let a = s .before .args in
+    let is = node-value (a .bytes .now) (a .at) _ _ _ _ (c .before .before .before .number-at .ensures) (c .before .before .number-at2 .ensures) (c .before .number-at3 .ensures) (c .number-at4 .ensures) in
+    (is, subst (node .fits) (sym is) (node-laws .fit (a .bytes .now) (a .at) (λ i. omega (arith, s .shared-slice-known .given i)) (s .before .pre)))
 
 pub node-at-spec : {M : Type 1} → statement M
 node-at-spec =

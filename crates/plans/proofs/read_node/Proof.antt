@@ -19,8 +19,10 @@ none-requires c κs = search needs
 
 returns : tie.Need-returns
 returns c =
-    let a = c .before .before .before .before .args in
-    bad-seen 1 _ (a .at) refl ∙ sym (piece-short node 1 (nodeFault (a .kinds) (a .place)) (a .bytes .now) (a .at) (omega arith))
+    let a = c .before .before .before .before .args in (
+      bad-seen 1 _ (a .at) refl ∙ sym (piece-short node 1 (nodeFault (a .kinds) (a .place)) (a .bytes .now) (a .at) (omega arith)),
+      rw (c .none .ensures) (omega arith, (omega arith, (omega arith, omega arith))),
+    )
 
 node-at-requires : tie.Need-node-at-requires
 node-at-requires c κs = search needs
@@ -35,10 +37,12 @@ returns-2 : tie.Need-returns-2
 returns-2 c =
     let n = c .before .before .before .node-at in
     let f = c .before .before .node-fault in
-    let a = c .before .before .before .before .before .before .before .args in
-    ap (λ k. seen k (n .result) (a .at)) (f .ensures)
-    ∙ seen-wrong node 1 (nodeFault (a .kinds) (a .place)) (a .bytes .now) (a .at) (n .result) (omega arith) (n .ensures)
-    (ap (λ k. eqb k 0) (sym (f .ensures)) ∙ sym (c .before .is-none .ensures) ∙ not-true _ (c .if2 .taken)) _
+    let a = c .before .before .before .before .before .before .before .args in (
+      ap (λ k. seen k (n .result) (a .at)) (f .ensures)
+          ∙ seen-wrong node 1 (nodeFault (a .kinds) (a .place)) (a .bytes .now) (a .at) (n .result) (omega arith) (n .ensures .0)
+          (ap (λ k. eqb k 0) (sym (f .ensures)) ∙ sym (c .before .is-none .ensures) ∙ not-true _ (c .if2 .taken)) _,
+      n .ensures .1,
+    )
 
 add-t7 : tie.Need-add-t7
 add-t7 c = search needs
@@ -47,9 +51,11 @@ returns-3 : tie.Need-returns-3
 returns-3 c =
     let n = c .before .before .before .node-at in
     let f = c .before .before .node-fault in
-    let a = c .before .before .before .before .before .before .before .args in
-    seen-right node 1 (nodeFault (a .kinds) (a .place)) (a .bytes .now) (a .at) (n .result) (omega arith) (n .ensures)
-    (ap (λ k. eqb k 0) (sym (f .ensures)) ∙ sym (c .before .is-none .ensures) ∙ not-false _ (c .if2 .left))
+    let a = c .before .before .before .before .before .before .before .args in (
+      seen-right node 1 (nodeFault (a .kinds) (a .place)) (a .bytes .now) (a .at) (n .result) (omega arith) (n .ensures .0)
+          (ap (λ k. eqb k 0) (sym (f .ensures)) ∙ sym (c .before .is-none .ensures) ∙ not-false _ (c .if2 .left)),
+      n .ensures .1,
+    )
 
 pub read-node-spec : {M : Type 1} → statement M
 read-node-spec =

@@ -1,30 +1,30 @@
 -- `plans::read_nodes`: the count, and a loop. The invariant: the nodes that are left, read from here after those that are held,
 -- give the section.
-use mathlib.Core.Path.{_≡_, refl, sym, _∙_}
-use Prim.Native.Nat.{_-_, _≤_}
-use mathlib.Core.List.{[]}
+use mathlib.Core.Path.{_≡_, refl, sym, ap, _∙_}
+use Prim.Native.Nat.{_+_, _-_, _≤_}
+use mathlib.Core.List.{List, [], map}
 use native.Mathlib.Omega.{arith}
-use lib.ListN.{length, take, length-set}
+use lib.ListN.{length, length-map, length-set, set, take}
 use lib.Seq.{length-take-le}
 use borrow.Author.Tests.{not-true, not-false}
+use Rattle.sequences.proofs.Arrays.{map-set}
 use Rattle.forms.specs.Sections.{entries, section}
 use Rattle.forms.proofs.Sections.{count-stop, count-go, turn-go, turn-stop, turn-end}
 use Rattle.plans.specs.Reader.{nodes}
+use Rattle.plans.specs.Views.{nodeOf}
+use Rattle.plans.specs.declared.Node.{Node}
 use Rattle.plans.proofs.Sections.{node-piece}
 use borrow.Author.Needs.{needs}
 use Rattle.plans.proofs.read_nodes.Statement.{statement}
 use Rattle.plans.proofs.read_nodes.Tie as tie
 
 abbrev Inv-loop : tie.InvT-loop
-Inv-loop bytes start kinds nodes₀ count at₀ i₀ nodes at i =
-    (i ≤ count) × (count ≤ 16) × (length nodes ≡ 16)
-    × (entries (Rattle.plans.specs.Reader.nodes kinds) (count - i) (take i nodes) bytes at ≡ section (Rattle.plans.specs.Reader.nodes kinds) bytes start)
+Inv-loop bytes start kinds into₀ places count at₀ i₀ into at i =
+    (i ≤ count) × (count ≤ 16) × (length (map nodeOf into) ≡ 16)
+    × (entries (nodes kinds) (count - i) (take i (map nodeOf into)) bytes at ≡ section (nodes kinds) bytes start)
 
 abbrev μ-loop : tie.MeasureT-loop
-μ-loop bytes start kinds nodes₀ count at₀ i₀ nodes at i = count - i
-
-none-requires : tie.Need-none-requires Inv-loop μ-loop
-none-requires c κs = search needs
+μ-loop bytes start kinds into₀ places count at₀ i₀ into at i = count - i
 
 read-number-requires : tie.Need-read-number-requires Inv-loop μ-loop
 read-number-requires c κs = search needs
@@ -39,17 +39,21 @@ returns : tie.Need-returns Inv-loop μ-loop
 returns c =
     let t = c .before in
     let r = t .before .before .read-number in
-    let a = t .before .before .before .before .before .args in
+    let a = t .before .before .before .before .before .before .args in
     rw (c .stopped .ensures)
-    (count-stop (nodes (a .kinds)) (a .bytes .now) (a .start) _ _ _ (r .ensures .0) (sym (t .before .is-none .ensures) ∙ not-true _ (t .if1 .taken)) [])
+    (record {
+      is = count-stop (nodes (a .kinds)) (a .bytes .now) (a .start) _ _ _ (r .ensures .0) (sym (t .before .is-none .ensures) ∙ not-true _ (t .if1 .taken)) [];
+      most = search needs;
+      holds = refl;
+    })
 
 loop-holds : tie.Need-loop-holds Inv-loop μ-loop
 loop-holds c =
     let r = c .before .before .read-number in
-    let a = c .before .before .before .before .before .args in (
+    let a = c .before .before .before .before .before .before .args in (
       search needs,
       search needs,
-      refl,
+      length-map (a .into .now) nodeOf ∙ search needs,
       count-go (nodes (a .kinds)) (a .bytes .now) (a .start) _ _ _ (r .ensures .0) (sym (c .before .is-none .ensures) ∙ not-false _ (c .if1 .left)),
     )
 
@@ -67,17 +71,24 @@ returns-2 c =
     let t = c .before in
     let r = t .before .before .read-node in
     let s = t .before .before .before .before in
-    let a = s .before .before .before .before .before .before .args in
-    let l = take (s .loop .i) (s .loop .nodes) in
-    let e = r .ensures ∙ node-piece (a .bytes .now) (s .loop .at) 1 (a .kinds) (s .loop .i) l (length-take-le (s .loop .i) (s .loop .nodes) (omega arith)) in
+    let a = s .before .before .before .before .before .before .before .args in
+    let l : List Node = map nodeOf (s .loop .into) in
+    let e = r .ensures .0 ∙ node-piece (a .bytes .now) (s .loop .at) 1 (a .kinds) (s .loop .i) (take (s .loop .i) l) (length-take-le (s .loop .i) l (omega arith)) in
     rw (c .stopped2 .ensures)
-    (turn-stop (nodes (a .kinds)) (a .bytes .now) _ (s .loop .i) (s .loop .nodes) _ _ (s .loop .inv .3) _ _ _ (search needs) e (sym (t .before .is-none2 .ensures) ∙ not-true _ (t .if2 .taken)) [])
+    (record {
+      is = turn-stop (nodes (a .kinds)) (a .bytes .now) _ (s .loop .i) l _ _ (s .loop .inv .3) _ _ _ (search needs) e (sym (t .before .is-none2 .ensures) ∙ not-true _ (t .if2 .taken)) [];
+      most = search needs;
+      holds = refl;
+    })
 
-mul-nodes : tie.Need-mul-nodes Inv-loop μ-loop
-mul-nodes c = search needs
+row-of-requires : tie.Need-row-of-requires Inv-loop μ-loop
+row-of-requires c κs = c .before .before .before .read-node .ensures .1
 
-array-set-from-nodes : tie.Need-array-set-from-nodes Inv-loop μ-loop
-array-set-from-nodes c = search needs
+mul-t22 : tie.Need-mul-t22 Inv-loop μ-loop
+mul-t22 c = search needs
+
+element-set-from-into : tie.Need-element-set-from-into Inv-loop μ-loop
+element-set-from-into c = search needs
 
 add-i : tie.Need-add-i Inv-loop μ-loop
 add-i c = search needs
@@ -87,22 +98,31 @@ loop-less c = search needs
 
 loop-again : tie.Need-loop-again Inv-loop μ-loop
 loop-again c =
-    let r = c .before .before .before .read-node in
-    let s = c .before .before .before .before .before in
-    let a = s .before .before .before .before .before .before .args in
-    let l = take (s .loop .i) (s .loop .nodes) in
-    let e = r .ensures ∙ node-piece (a .bytes .now) (s .loop .at) 1 (a .kinds) (s .loop .i) l (length-take-le (s .loop .i) (s .loop .nodes) (omega arith)) in (
+    let k = c .before .before .before in
+    let r = k .before .read-node in
+    let s = k .before .before .before in
+    let a = s .before .before .before .before .before .before .before .args in
+    let l : List Node = map nodeOf (s .loop .into) in
+    let e = r .ensures .0 ∙ node-piece (a .bytes .now) (s .loop .at) 1 (a .kinds) (s .loop .i) (take (s .loop .i) l) (length-take-le (s .loop .i) l (omega arith)) in
+    let held : map nodeOf (set (s .loop .into) (s .loop .i) (c .row-of .result)) ≡ set l (s .loop .i) (r .result .node) = map-set nodeOf (s .loop .into) (s .loop .i) (c .row-of .result) ∙ ap (set l (s .loop .i)) (c .row-of .ensures) in (
       search needs,
       search needs,
-      simp length-set (omega arith),
-      turn-go (nodes (a .kinds)) (a .bytes .now) _ (s .loop .i) (s .loop .nodes) _ _ (s .loop .inv .3) _ _ _ (search needs) (omega arith) e (sym (c .before .before .is-none2 .ensures) ∙ not-false _ (c .before .if2 .left)),
+      ap length held ∙ length-set l (s .loop .i) (r .result .node) ∙ s .loop .inv .2,
+      ap (λ x. entries (nodes (a .kinds)) (s .before .before .before .read-number .result .value - (s .loop .i + 1)) (take (s .loop .i + 1) x) (a .bytes .now) (r .result .at)) held
+          ∙ turn-go (nodes (a .kinds)) (a .bytes .now) _ (s .loop .i) l _ _ (s .loop .inv .3) _ _ _ (search needs) (omega arith) e (sym (k .is-none2 .ensures) ∙ not-false _ (c .before .before .if2 .left)),
     )
 
 returns-3 : tie.Need-returns-3 Inv-loop μ-loop
 returns-3 c =
     let s = c .before in
-    let a = s .before .before .before .before .before .before .args in
-    turn-end (nodes (a .kinds)) (a .bytes .now) (s .before .before .before .read-number .result .value) (s .loop .i) (s .loop .nodes) _ _ (s .loop .inv .3) (omega arith)
+    let a = s .before .before .before .before .before .before .before .args in
+    let n = s .before .before .before .read-number .result .value in
+    let l : List Node = map nodeOf (s .loop .into) in
+    record {
+      is = turn-end (nodes (a .kinds)) (a .bytes .now) n (s .loop .i) l _ _ (s .loop .inv .3) (omega arith);
+      most = search needs;
+      holds = length-take-le n l (omega arith);
+    }
 
 pub read-nodes-spec : {M : Type 1} → statement M
 read-nodes-spec =
@@ -110,7 +130,6 @@ read-nodes-spec =
     (tie.spec
     Inv-loop
     μ-loop
-    none-requires
     read-number-requires
     is-none-requires
     stopped-requires
@@ -120,8 +139,9 @@ read-nodes-spec =
     is-none-requires-2
     stopped-requires-2
     returns-2
-    mul-nodes
-    array-set-from-nodes
+    row-of-requires
+    mul-t22
+    element-set-from-into
     add-i
     loop-less
     loop-again

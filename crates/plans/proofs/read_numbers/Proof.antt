@@ -18,16 +18,15 @@ use Rattle.plans.proofs.read_numbers.Statement.{statement}
 use Rattle.plans.proofs.read_numbers.Tie as tie
 
 abbrev Inv-loop : tie.InvT-loop
-Inv-loop bytes start limit disorder numbers₀ count at₀ least₀ i₀ numbers at least i =
-    (i ≤ count) × (length numbers ≡ 32) × ((v : ℕ) → above (take i numbers) v ≡ leb least v)
-    × ((m : ℕ) → entries (Rattle.plans.specs.Reader.numbers limit m (numberOf disorder)) (count - i) (take i numbers) bytes at
-    ≡ entries (Rattle.plans.specs.Reader.numbers limit m (numberOf disorder)) (count - 0) [] bytes at₀)
+Inv-loop bytes start into₀ limit disorder count at₀ least₀ i₀ into at least i =
+    (i ≤ count) × (length into ≡ length into₀) × ((v : ℕ) → above (take i into) v ≡ leb least v)
+    × ((m : ℕ) → entries (numbers limit m (numberOf disorder)) (count - i) (take i into) bytes at ≡ entries (numbers limit m (numberOf disorder)) (count - 0) [] bytes at₀)
 
 abbrev μ-loop : tie.MeasureT-loop
-μ-loop bytes start limit disorder numbers₀ count at₀ least₀ i₀ numbers at least i = count - i
+μ-loop bytes start into₀ limit disorder count at₀ least₀ i₀ into at least i = count - i
 
 read-number-requires : tie.Need-read-number-requires Inv-loop μ-loop
-read-number-requires c κs = (search needs, search needs, c .before .pre .1)
+read-number-requires c κs = (search needs, search needs, c .before .before .pre .1)
 
 is-none-requires : tie.Need-is-none-requires Inv-loop μ-loop
 is-none-requires c κs = search needs
@@ -39,7 +38,7 @@ returns : tie.Need-returns Inv-loop μ-loop
 returns c =
     let t = c .before in
     let r = t .before .before .read-number in
-    let a = t .before .before .before .before .args in
+    let a = t .before .before .before .before .before .args in
     rw (c .stopped .ensures)
     (record {
       is = count-stop (numbers (a .limit) (numberOf (a .miscount)) (numberOf (a .disorder))) (a .bytes .now) (a .start) _ _ _ (r .ensures .0) (sym (t .before .is-none .ensures) ∙ not-true _ (t .if1 .taken)) [];
@@ -51,7 +50,7 @@ loop-holds : tie.Need-loop-holds Inv-loop μ-loop
 loop-holds c = (search needs, refl, (λ v. sym (leb·zero v)), (λ m. refl))
 
 read-number-requires-2 : tie.Need-read-number-requires-2 Inv-loop μ-loop
-read-number-requires-2 c κs = (search needs, search needs, c .before .before .before .before .before .before .pre .2)
+read-number-requires-2 c κs = (search needs, search needs, c .before .before .before .before .before .before .before .pre .2)
 
 is-none-requires-2 : tie.Need-is-none-requires-2 Inv-loop μ-loop
 is-none-requires-2 c κs = search needs
@@ -59,28 +58,35 @@ is-none-requires-2 c κs = search needs
 stopped-requires-2 : tie.Need-stopped-requires-2 Inv-loop μ-loop
 stopped-requires-2 c κs = search needs
 
+same-length : tie.Need-same-length Inv-loop μ-loop
+same-length c = search needs
+
 returns-2 : tie.Need-returns-2 Inv-loop μ-loop
 returns-2 c =
     let t = c .before in
     let r = t .before .before .read-number2 in
     let s = t .before .before .before .before in
     let p = s .before .before .before in
-    let a = p .before .before .args in
+    let q = p .before .before in
+    let a = q .before .args in
     let sec = numbers (a .limit) (numberOf (a .miscount)) (numberOf (a .disorder)) in
-    let e = r .ensures .0 ∙ rising-piece 1 (numberOf (a .disorder)) (a .bytes .now) (s .loop .at) (s .loop .least) (take (s .loop .i) (s .loop .numbers)) (λ j. omega (arith, p .before .shared-slice-known .given j)) (s .loop .inv .2) in
+    let e = r .ensures .0 ∙ rising-piece 1 (numberOf (a .disorder)) (a .bytes .now) (s .loop .at) (s .loop .least) (take (s .loop .i) (s .loop .into)) (λ j. omega (arith, q .shared-slice-known .given j)) (s .loop .inv .2) in
     rw (c .stopped2 .ensures)
     (record {
-      is = turn-stop sec (a .bytes .now) _ (s .loop .i) (s .loop .numbers) _ _ (s .loop .inv .3 (numberOf (a .miscount))) _ _ _ (search needs) e (sym (t .before .is-none2 .ensures) ∙ not-true _ (t .if2 .taken)) []
+      is = turn-stop sec (a .bytes .now) _ (s .loop .i) (s .loop .into) _ _ (s .loop .inv .3 (numberOf (a .miscount))) _ _ _ (search needs) e (sym (t .before .is-none2 .ensures) ∙ not-true _ (t .if2 .taken)) []
           ∙ count-go sec (a .bytes .now) (a .start) _ _ _ (p .read-number .ensures .0) (sym (s .before .before .is-none .ensures) ∙ not-false _ (s .before .if1 .left));
       most = search needs;
       holds = refl;
     })
 
-mul-numbers : tie.Need-mul-numbers Inv-loop μ-loop
-mul-numbers c = search needs
+cast-into : tie.Need-cast-into Inv-loop μ-loop
+cast-into c = search needs
 
-array-write-numbers : tie.Need-array-write-numbers Inv-loop μ-loop
-array-write-numbers c = search needs
+mul-into : tie.Need-mul-into Inv-loop μ-loop
+mul-into c = search needs
+
+slice-write-into : tie.Need-slice-write-into Inv-loop μ-loop
+slice-write-into c = search needs
 
 add-least : tie.Need-add-least Inv-loop μ-loop
 add-least c = search needs
@@ -93,29 +99,34 @@ loop-less c = search needs
 
 loop-again : tie.Need-loop-again Inv-loop μ-loop
 loop-again c =
-    let r = c .before .before .before .read-number2 in
-    let s = c .before .before .before .before .before in
+    let r = c .before .before .before .before .read-number2 in
+    let s = c .before .before .before .before .before .before in
     let p = s .before .before .before in
-    let a = p .before .before .args in
-    let e = r .ensures .0 ∙ rising-piece 1 (numberOf (a .disorder)) (a .bytes .now) (s .loop .at) (s .loop .least) (take (s .loop .i) (s .loop .numbers)) (λ j. omega (arith, p .before .shared-slice-known .given j)) (s .loop .inv .2) in
-    let j : s .loop .i < length (s .loop .numbers) = omega arith in (
-      search needs,
+    let q = p .before .before in
+    let a = q .before .args in
+    let e = r .ensures .0 ∙ rising-piece 1 (numberOf (a .disorder)) (a .bytes .now) (s .loop .at) (s .loop .least) (take (s .loop .i) (s .loop .into)) (λ j. omega (arith, q .shared-slice-known .given j)) (s .loop .inv .2) in
+    let in-count = c .before .before .before .before .before .loop-test .taken in
+    let j : s .loop .i < length (s .loop .into) = omega (arith, in-count, s .loop .inv .1, p .read-number .ensures .1, q .before .pre .0) in (
+      omega (arith, in-count),
       simp length-set (omega arith),
-      least-more (s .loop .numbers) (s .loop .i) (r .result .value) j,
-      (λ m. turn-go (numbers (a .limit) m (numberOf (a .disorder))) (a .bytes .now) _ (s .loop .i) (s .loop .numbers) _ _ (s .loop .inv .3 m) _ _ _ (search needs) j e (sym (c .before .before .is-none2 .ensures) ∙ not-false _ (c .before .if2 .left))),
+      least-more (s .loop .into) (s .loop .i) (r .result .value) j,
+      (λ m. turn-go (numbers (a .limit) m (numberOf (a .disorder))) (a .bytes .now) _ (s .loop .i) (s .loop .into) _ _ (s .loop .inv .3 m) _ _ _ in-count j e (sym (c .before .before .before .is-none2 .ensures) ∙ not-false _ (c .before .before .if2 .left))),
     )
+
+same-length-2 : tie.Need-same-length-2 Inv-loop μ-loop
+same-length-2 c = search needs
 
 returns-3 : tie.Need-returns-3 Inv-loop μ-loop
 returns-3 c =
     let s = c .before in
     let p = s .before .before .before in
-    let a = p .before .before .args in
+    let a = p .before .before .before .args in
     let sec = numbers (a .limit) (numberOf (a .miscount)) (numberOf (a .disorder)) in
     record {
-      is = turn-end sec (a .bytes .now) (p .read-number .result .value) (s .loop .i) (s .loop .numbers) _ _ (s .loop .inv .3 (numberOf (a .miscount))) (omega arith)
+      is = turn-end sec (a .bytes .now) (p .read-number .result .value) (s .loop .i) (s .loop .into) _ _ (s .loop .inv .3 (numberOf (a .miscount))) (omega arith)
           ∙ count-go sec (a .bytes .now) (a .start) _ _ _ (p .read-number .ensures .0) (sym (s .before .before .is-none .ensures) ∙ not-false _ (s .before .if1 .left));
       most = search needs;
-      holds = length-take-le (p .read-number .result .value) (s .loop .numbers) (omega arith);
+      holds = length-take-le (p .read-number .result .value) (s .loop .into) (omega arith);
     }
 
 pub read-numbers-spec : {M : Type 1} → statement M
@@ -132,11 +143,14 @@ read-numbers-spec =
     read-number-requires-2
     is-none-requires-2
     stopped-requires-2
+    same-length
     returns-2
-    mul-numbers
-    array-write-numbers
+    cast-into
+    mul-into
+    slice-write-into
     add-least
     add-i
     loop-less
     loop-again
+    same-length-2
     returns-3)

@@ -4,6 +4,21 @@ use borrow.Author.Needs.{needs}
 use Rattle.slots.proofs.slot_of.Statement.{statement}
 use Rattle.slots.proofs.slot_of.Tie as tie
 
+mul-input : tie.Need-mul-input
+mul-input c = search needs
+
+element-copy-out-input : tie.Need-element-copy-out-input
+element-copy-out-input c = search needs
+
+cast-result : tie.Need-cast-result
+cast-result c = search needs
+
+cast-if3 : tie.Need-cast-if3
+cast-if3 c = search needs
+
+cast-result-2 : tie.Need-cast-result-2
+cast-result-2 c = search needs
+
 add-result : tie.Need-add-result
 add-result c = search needs
 
@@ -20,4 +35,16 @@ returns-4 : tie.Need-returns-4
 returns-4 c = slot-past _ _ (c .before .if2 .left) (c .if3 .left)
 
 pub slot-of-spec : {M : Type 1} → statement M
-slot-of-spec = tie.close (tie.spec add-result returns returns-2 returns-3 returns-4)
+slot-of-spec =
+    tie.close
+    (tie.spec
+    mul-input
+    element-copy-out-input
+    cast-result
+    cast-if3
+    cast-result-2
+    add-result
+    returns
+    returns-2
+    returns-3
+    returns-4)
