@@ -7,7 +7,7 @@ use Prim.Native.Nat.{ℕ, suc, max, _+_, _^_, _≤_, _<_}
 use native.Mathlib.Decide.{ℕ-discrete, decLt}
 use native.Mathlib.Omega.{arith}
 use native.Mathlib.Nat.{mod-eq-of-lt}
-use lib.ListN.{length, replicate}
+use lib.ListN.{length}
 use lib.Dec.{leb, lit<, ltb}
 use lib.Seq.{append-snoc}
 use borrow.Author.Tests.{eq-eqb, le-ltb, leb-true, lt-ltb, ne-eqb}
@@ -34,8 +34,8 @@ use Rattle.open_calls.specs.declared.Verdict.{Verdict}
 use Rattle.open_calls.specs.declared.Verdict.the-variants.{Accepted, BadEntry, NotConcurrent}
 use Rattle.open_calls.specs.Answers.{numberOf, refusal, validLength}
 use Rattle.comparisons.specs.Answers.{Judged, judged, judgedList, refusedComparison, related, compareAnswer}
-use Rattle.open_calls.specs.Steps.{joinVerdict}
-use Rattle.comparisons.specs.Steps.{afterFirst, compareDone, compareRun, compareStart, firstGathered, foldGather, gathered, gatherStep, nothingGathered, placeAfter, turnedBack}
+use Rattle.open_calls.specs.Steps.{joinVerdict, noMarks}
+use Rattle.comparisons.specs.Steps.{afterFirst, compareDone, compareRun, compareStart, firstGathered, foldGather, gathered, gatherStep, gatheringOf, nothingSpanned, placeAfter, stoppedAt, turnedBack}
 use Rattle.open_calls.specs.Marks.{markAt, markOf, raisedBy, stampsOf}
 use Rattle.comparisons.specs.Marks.{isEarlier, isLater, lowerOf}
 use Rattle.comparisons.proofs.Folds.{gather-none, gather-next}
@@ -44,10 +44,13 @@ use Rattle.comparisons.proofs.Relations.{relation-is}
 use Rattle.comparisons.proofs.Spans.{Spanned, fromOf, met-marks, spanned-more, spanned-none, spanned-same, tillOf}
 
 abbrev gathering : List ℕ → ℕ → ℕ → Gathering
-gathering marks from till = record { verdict = Accepted; place = 0; marks = marks; from = from; till = till }
+gathering marks from till = gatheringOf (record { verdict = Accepted; place = 0; from = from; till = till }) marks
+
+abbrev nothingGathered : Gathering
+nothingGathered = gatheringOf nothingSpanned noMarks
 
 -- after a bad entry nothing changes
-still : (ratio i : ℕ) (a : Gathering) (l : List Timestamp) → refusal (a .verdict) ≡ true → foldGather ratio i a l ≡ a
+still : (ratio i : ℕ) (a : Gathering) (l : List Timestamp) → refusal (a .span .verdict) ≡ true → foldGather ratio i a l ≡ a
 unfolding gatherStep
 still ratio i a [] r = gather-none ratio i a
 still ratio i a (s ∷ l) r = gather-next ratio i a s l ∙ rw r (still ratio (suc i) a l r)
@@ -104,10 +107,10 @@ record Kept (ratio : ℕ) (marks : List ℕ) (from till : ℕ) (l : List Timesta
 
 -- ---- a list from its place i on, with the earlier ones in the marks
 pub record Gathered (ratio place i : ℕ) (earlier l : List Timestamp) (a : Gathering) : Type 0 where
-  verdict : a .verdict ≡ judged ratio earlier (place + i) l .verdict
-  at : refusal (a .verdict) ≡ true → place + a .place ≡ judged ratio earlier (place + i) l .place
-  most : refusal (a .verdict) ≡ true → a .place < i + length l
-  kept : refusal (a .verdict) ≡ false → Kept ratio (a .marks) (a .from) (a .till) (earlier ++ l)
+  verdict : a .span .verdict ≡ judged ratio earlier (place + i) l .verdict
+  at : refusal (a .span .verdict) ≡ true → place + a .span .place ≡ judged ratio earlier (place + i) l .place
+  most : refusal (a .span .verdict) ≡ true → a .span .place < i + length l
+  kept : refusal (a .span .verdict) ≡ false → Kept ratio (a .marks) (a .span .from) (a .span .till) (earlier ++ l)
 
 -- a step goes on with one more in the marks
 record Goes (ratio : ℕ) (l : List Timestamp) (a : Gathering) : Type 0 where
@@ -121,7 +124,7 @@ module _ (ratio i : ℕ) (marks : List ℕ) (from till : ℕ) (s : Timestamp) wh
   abbrev own : ℕ
   own = markAt marks (s .logger)
 
-  step-invalid : valid s ≡ false → gatherStep (gathering marks from till) s i ratio ≡ turnedBack (gathering marks from till) BadEntry i
+  step-invalid : valid s ≡ false → gatherStep (gathering marks from till) s i ratio ≡ stoppedAt (gathering marks from till) BadEntry i
   unfolding gatherStep refusal numberOf
   step-invalid v = rw v
 
@@ -129,7 +132,7 @@ module _ (ratio i : ℕ) (marks : List ℕ) (from till : ℕ) (s : Timestamp) wh
   unfolding gatherStep gathered refusal numberOf
   step-same v e = rw (v, eq-eqb own (markOf s) e)
 
-  step-other : valid s ≡ true → (own ≡ markOf s → ⊥) → (own ≡ 0 → ⊥) → gatherStep (gathering marks from till) s i ratio ≡ turnedBack (gathering marks from till) NotConcurrent i
+  step-other : valid s ≡ true → (own ≡ markOf s → ⊥) → (own ≡ 0 → ⊥) → gatherStep (gathering marks from till) s i ratio ≡ stoppedAt (gathering marks from till) NotConcurrent i
   unfolding gatherStep gathered refusal numberOf
   step-other v d z = rw (v, ne-eqb own (markOf s) d, ne-eqb own 0 z)
 
@@ -137,7 +140,7 @@ module _ (ratio i : ℕ) (marks : List ℕ) (from till : ℕ) (s : Timestamp) wh
   unfolding gatherStep gathered refusal numberOf
   step-first v z = rw (v, ne-eqb own (markOf s) (λ e. omega (arith, e, z)), eq-eqb own 0 z)
 
-  first-clash : (ltb from (markOf s) || leb (markOf s) till) ≡ true → firstGathered (gathering marks from till) s i ratio ≡ turnedBack (gathering marks from till) NotConcurrent i
+  first-clash : (ltb from (markOf s) || leb (markOf s) till) ≡ true → firstGathered (gathering marks from till) s i ratio ≡ stoppedAt (gathering marks from till) NotConcurrent i
   unfolding firstGathered
   first-clash h = rw h
 
@@ -162,9 +165,9 @@ module _ (ratio p : ℕ) (earlier : List Timestamp) (s : Timestamp) (l : List Ti
 -- turned back at this entry
 refused-here : (ratio place i : ℕ) (earlier : List Timestamp) (s : Timestamp) (l : List Timestamp) (a : Gathering) (v : Verdict) → refusal v ≡ true
     → judged ratio earlier (place + i) (s ∷ l) ≡ record { verdict = v; place = place + i }
-    → Gathered ratio place i earlier (s ∷ l) (foldGather ratio (suc i) (turnedBack a v i) l)
+    → Gathered ratio place i earlier (s ∷ l) (foldGather ratio (suc i) (stoppedAt a v i) l)
 unfolding turnedBack
-refused-here ratio place i earlier s l a v r e = rw (still ratio (suc i) (turnedBack a v i) l r) (record {
+refused-here ratio place i earlier s l a v r e = rw (still ratio (suc i) (stoppedAt a v i) l r) (record {
   verdict = sym (ap (λ (j : Judged). j .verdict) e);
   at = λ _. sym (ap (λ (j : Judged). j .place) e);
   most = λ _. omega arith;
@@ -224,7 +227,7 @@ module _ (ratio i : ℕ) (marks : List ℕ) (from till : ℕ) (earlier : List Ti
         (or-right (leb (markOf s) till) (ltb (markOf s) mine) (lt-ltb (markOf s) mine (omega (arith, l, d))))
   ]
 
-  step-clash : clashes ≡ true → gatherStep (gathering marks from till) s i ratio ≡ turnedBack (gathering marks from till) NotConcurrent i
+  step-clash : clashes ≡ true → gatherStep (gathering marks from till) s i ratio ≡ stoppedAt (gathering marks from till) NotConcurrent i
   step-clash h = elim (ℕ-discrete mine (markOf s)) [
     | yes e ↦ absurd (never-both h (held-goes e))
     | no d ↦ elim (ℕ-discrete mine 0) [
@@ -302,12 +305,12 @@ gather-is ratio place r (s ∷ l) i marks from till earlier k =
         rw (x .is) (record {
           verdict = g .verdict ∙ sym (ap (λ (j : Judged). j .verdict) e);
           at = λ r. g .at r ∙ sym (ap (λ (j : Judged). j .place) e);
-          most = λ r. let m : foldGather ratio (suc i) (gathering (x .marks) (x .from) (x .till)) l .place < suc i + length l = g .most r in omega arith;
+          most = λ r. let m : foldGather ratio (suc i) (gathering (x .marks) (x .from) (x .till)) l .span .place < suc i + length l = g .most r in omega arith;
           kept = λ r. rw (← append-snoc earlier s l) (g .kept r);
         })
 
 -- ---- a list whole
-none-kept : (ratio : ℕ) → Kept ratio (replicate 8 0) 18446744073709551615 0 []
+none-kept : (ratio : ℕ) → Kept ratio noMarks 18446744073709551615 0 []
 none-kept ratio = record {
   sized = refl;
   same = rw (none-is, members-none) (same-refl []);
@@ -316,7 +319,7 @@ none-kept ratio = record {
 }
 
 list-is : (ratio place : ℕ) → validRatio ratio ≡ true → (l : List Timestamp) → Gathered ratio place 0 [] l (foldGather ratio 0 nothingGathered l)
-list-is ratio place r l = gather-is ratio place r l 0 (replicate 8 0) 18446744073709551615 0 [] (none-kept ratio)
+list-is ratio place r l = gather-is ratio place r l 0 noMarks 18446744073709551615 0 [] (none-kept ratio)
 
 length-most : (n : ℕ) → validLength n ≡ true → n ≤ 128
 unfolding validLength
@@ -334,21 +337,21 @@ module _ (ratio : ℕ) (a b : List Timestamp) where
   abbrev B : Gathering
   B = foldGather ratio 0 nothingGathered b
 
-  first-refused : validRatio ratio ≡ true → validLength (length a) ≡ true → refusal (A .verdict) ≡ true → compareRun ratio a b ≡ compareAnswer ratio a b
+  first-refused : validRatio ratio ≡ true → validLength (length a) ≡ true → refusal (A .span .verdict) ≡ true → compareRun ratio a b ≡ compareAnswer ratio a b
   unfolding compareRun compareAnswer compareStart joinVerdict afterFirst judgedList refusal numberOf
   first-refused r n h =
       let g : Gathered ratio 0 0 [] a A = list-is ratio 0 r a in
-      let p : judged ratio [] 0 a .place ≡ A .place = let e : 0 + A .place ≡ judged ratio [] 0 a .place = g .at h in omega arith in
+      let p : judged ratio [] 0 a .place ≡ A .span .place = let e : 0 + A .span .place ≡ judged ratio [] 0 a .place = g .at h in omega arith in
       rw (r, n, ← g .verdict, h, p)
 
-  second-length : validRatio ratio ≡ true → validLength (length a) ≡ true → refusal (A .verdict) ≡ false → validLength (length b) ≡ false → compareRun ratio a b ≡ compareAnswer ratio a b
+  second-length : validRatio ratio ≡ true → validLength (length a) ≡ true → refusal (A .span .verdict) ≡ false → validLength (length b) ≡ false → compareRun ratio a b ≡ compareAnswer ratio a b
   unfolding compareRun compareAnswer compareStart joinVerdict afterFirst judgedList refusal numberOf
   second-length r n h m =
       let g : Gathered ratio 0 0 [] a A = list-is ratio 0 r a in
       rw (r, n, ← g .verdict, h, m)
 
   -- where both lists are walked to their ends
-  module _ (r : validRatio ratio ≡ true) (n : validLength (length a) ≡ true) (h : refusal (A .verdict) ≡ false) (m : validLength (length b) ≡ true) where
+  module _ (r : validRatio ratio ≡ true) (n : validLength (length a) ≡ true) (h : refusal (A .span .verdict) ≡ false) (m : validLength (length b) ≡ true) where
     run-second : compareRun ratio a b ≡ compareDone (length a) A B
     unfolding compareRun compareStart joinVerdict afterFirst refusal numberOf
     run-second = rw (r, n, h, m)
@@ -363,39 +366,39 @@ module _ (ratio : ℕ) (a b : List Timestamp) where
     second-list : Gathered ratio (length a) 0 [] b B
     second-list = list-is ratio (length a) r b
 
-    verdict-is : B .verdict ≡ judged ratio [] (length a) b .verdict
+    verdict-is : B .span .verdict ≡ judged ratio [] (length a) b .verdict
     verdict-is = second-list .verdict ∙ ap (λ p. judged ratio [] p b .verdict) (omega arith)
 
-    second-done : refusal (B .verdict) ≡ true → placeAfter (length a) (B .place) ≡ judged ratio [] (length a) b .place → compareDone (length a) A B
+    second-done : refusal (B .span .verdict) ≡ true → placeAfter (length a) (B .span .place) ≡ judged ratio [] (length a) b .place → compareDone (length a) A B
         ≡ pick (refusal (judged ratio [] (length a) b .verdict)) (refusedComparison (judged ratio [] (length a) b .verdict) (judged ratio [] (length a) b .place)) (related (relationOf ratio a b))
     unfolding compareDone
     second-done k p = rw (← verdict-is, k, p)
 
-    all-done : refusal (B .verdict) ≡ false → compareDone (length a) A B
+    all-done : refusal (B .span .verdict) ≡ false → compareDone (length a) A B
         ≡ pick (refusal (judged ratio [] (length a) b .verdict)) (refusedComparison (judged ratio [] (length a) b .verdict) (judged ratio [] (length a) b .place)) (related (relationOf ratio a b))
     unfolding compareDone
     all-done k =
         let g : Gathered ratio 0 0 [] a A = list-is ratio 0 r a in
-        let x : Kept ratio (A .marks) (A .from) (A .till) a = g .kept h in
-        let y : Kept ratio (B .marks) (B .from) (B .till) b = second-list .kept k in
+        let x : Kept ratio (A .marks) (A .span .from) (A .span .till) a = g .kept h in
+        let y : Kept ratio (B .marks) (B .span .from) (B .span .till) b = second-list .kept k in
         rw (
           ← verdict-is,
           k,
-          relation-is ratio (A .from) (A .till) (A .marks) (B .marks) r
-              (spanned-same ratio (A .from) (A .till) a (members (stampsOf (A .marks))) (same-sym (x .same)) (x .spanned))
+          relation-is ratio (A .span .from) (A .span .till) (A .marks) (B .marks) r
+              (spanned-same ratio (A .span .from) (A .span .till) a (members (stampsOf (A .marks))) (same-sym (x .same)) (x .spanned))
               (λ e m. y .spanned .small e (y .same .0 e m))
               ∙ relation-same ratio (members (stampsOf (A .marks))) (members (stampsOf (B .marks))) a b (x .same) (y .same),
         )
 
-    second-refused : refusal (B .verdict) ≡ true → compareRun ratio a b ≡ compareAnswer ratio a b
+    second-refused : refusal (B .span .verdict) ≡ true → compareRun ratio a b ≡ compareAnswer ratio a b
     second-refused k =
-        let fits : placeAfter (length a) (B .place) ≡ length a + B .place
-        = place-fits (length a) (B .place) (length-most (length a) n) (let x : B .place < 0 + length b = second-list .most k in let y : length b ≤ 128 = length-most (length b) m in omega arith) in
-        let p : placeAfter (length a) (B .place) ≡ judged ratio [] (length a) b .place
+        let fits : placeAfter (length a) (B .span .place) ≡ length a + B .span .place
+        = place-fits (length a) (B .span .place) (length-most (length a) n) (let x : B .span .place < 0 + length b = second-list .most k in let y : length b ≤ 128 = length-most (length b) m in omega arith) in
+        let p : placeAfter (length a) (B .span .place) ≡ judged ratio [] (length a) b .place
         = fits ∙ second-list .at k ∙ ap (λ p. judged ratio [] p b .place) (omega arith) in
         run-second ∙ second-done k p ∙ sym answer-second
 
-    second-accepted : refusal (B .verdict) ≡ false → compareRun ratio a b ≡ compareAnswer ratio a b
+    second-accepted : refusal (B .span .verdict) ≡ false → compareRun ratio a b ≡ compareAnswer ratio a b
     second-accepted k = run-second ∙ all-done k ∙ sym answer-second
 
 pub compare-is : (ratio : ℕ) (a b : List Timestamp) → compareRun ratio a b ≡ compareAnswer ratio a b
@@ -408,12 +411,12 @@ compare-is ratio a b = ⊎-elim (λ r. ⊎-elim (walked r) (length-bad r) (eithe
     length-bad : validRatio ratio ≡ true → validLength (length a) ≡ false → compareRun ratio a b ≡ compareAnswer ratio a b
     length-bad r n = rw (r, n)
 
-    second : (r : validRatio ratio ≡ true) (n : validLength (length a) ≡ true) (h : refusal (foldGather ratio 0 nothingGathered a .verdict) ≡ false)
+    second : (r : validRatio ratio ≡ true) (n : validLength (length a) ≡ true) (h : refusal (foldGather ratio 0 nothingGathered a .span .verdict) ≡ false)
         → validLength (length b) ≡ true → compareRun ratio a b ≡ compareAnswer ratio a b
     second r n h m =
-        ⊎-elim (second-refused ratio a b r n h m) (second-accepted ratio a b r n h m) (either-way (refusal (foldGather ratio 0 nothingGathered b .verdict)))
+        ⊎-elim (second-refused ratio a b r n h m) (second-accepted ratio a b r n h m) (either-way (refusal (foldGather ratio 0 nothingGathered b .span .verdict)))
 
     walked : validRatio ratio ≡ true → validLength (length a) ≡ true → compareRun ratio a b ≡ compareAnswer ratio a b
     walked r n =
         ⊎-elim (first-refused ratio a b r n) (λ h. ⊎-elim (second r n h) (second-length ratio a b r n h) (either-way (validLength (length b))))
-        (either-way (refusal (foldGather ratio 0 nothingGathered a .verdict)))
+        (either-way (refusal (foldGather ratio 0 nothingGathered a .span .verdict)))

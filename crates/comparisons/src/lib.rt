@@ -2,10 +2,10 @@
 ghost use mathlib.Core.Path.{_≡_};
 ghost use mathlib.Core.Bool.{true, _||_, _&&_};
 ghost use Rattle.timestamps.specs.Order.{valid};
-ghost use Rattle.open_calls.specs.Steps.{joinVerdict};
+ghost use Rattle.open_calls.specs.Steps.{joinVerdict, noMarks};
 ghost use Rattle.comparisons.specs.Answers.{compareAnswer, refusedComparison};
 ghost use Rattle.comparisons.specs.Marks.{clearFrom, isEarlier, isLater, lowerOf, relatedAt, relatedMarks};
-ghost use Rattle.comparisons.specs.Steps.{afterFirst, compareDone, compareStart, firstGathered, foldGather, gatherStep, gathered, placeAfter, turnedBack};
+ghost use Rattle.comparisons.specs.Steps.{afterFirst, compareDone, compareStart, firstGathered, foldGather, gatherStep, gathered, gatheringOf, placeAfter, turnedBack};
 use open_calls::Verdict;
 use timestamps::Relation;
 use timestamps::Timestamp;
@@ -32,21 +32,26 @@ fn refused_comparison(v: Verdict, place: u64) -> Comparison
     }
 }
 
-// The marks of one list so far, and whether it was turned back. The marks over `from` are clearly later than some of them, those up to
+// How one list has been judged so far, and its two bounds: the marks over `from` are clearly later than some of its timestamps, those up to
 // `till` clearly earlier.
-pub struct Gathering {
+pub struct Span {
     pub verdict: Verdict,
     pub place: u64,
-    pub marks: [u64; 8],
     pub from: u64,
     pub till: u64,
+}
+
+// What has been gathered of one list: its span, and the marks of its timestamps.
+pub struct Gathering {
+    pub span: Span,
+    pub marks: [u64; 8],
 }
 
 // Before a list is walked: turned back at once, or nothing gathered yet.
 pub struct CompareStart {
     pub stop: bool,
     pub answer: Comparison,
-    pub gathering: Gathering,
+    pub span: Span,
 }
 
 fn start_of(v: Verdict, place: u64) -> CompareStart
@@ -54,17 +59,16 @@ fn start_of(v: Verdict, place: u64) -> CompareStart
 {
     let stop = open_calls::is_refusal(v);
     let answer = refused_comparison(v, place);
-    let gathering = Gathering {
+    let span = Span {
         verdict: Verdict::Accepted,
         place: 0,
-        marks: [0; 8],
         from: 18446744073709551615,
         till: 0,
     };
     CompareStart {
         stop: stop,
         answer: answer,
-        gathering: gathering,
+        span: span,
     }
 }
 
@@ -76,72 +80,78 @@ pub fn compare_start(ratio: u64, n: usize) -> CompareStart
     start_of(v, 0)
 }
 
-// One entry: after a bad one nothing changes.
-pub fn gather_step(a: Gathering, s: Timestamp, i: usize, ratio: u64) -> Gathering
-    ensures { λ r. ⌜ r ≡ gatherStep a s i ratio ⌝ }
+// One entry: after a bad one nothing changes. What is handed back is made anew, as in `open_calls::join_step`.
+pub fn gather_step(a: Span, marks: &mut [u64; 8], s: Timestamp, i: usize, ratio: u64) -> Span
+    ensures { λ r. ⌜ gatheringOf r (now (marks .exit)) ≡ gatherStep (gatheringOf a (now (marks .entry))) s i ratio ⌝ }
 {
     let v = a.verdict;
     if open_calls::is_refusal(v) {
-        a
+        Span {
+            verdict: v,
+            place: a.place,
+            from: a.from,
+            till: a.till,
+        }
     } else if s.valid() {
-        gather(a, s, i, ratio)
+        gather(a, marks, s, i, ratio)
     } else {
         turned_back(a, Verdict::BadEntry, i)
     }
 }
 
-fn turned_back(a: Gathering, v: Verdict, i: usize) -> Gathering
+fn turned_back(a: Span, v: Verdict, i: usize) -> Span
     ensures { λ r. ⌜ r ≡ turnedBack a v i ⌝ }
 {
-    let marks = a.marks;
-    Gathering {
+    Span {
         verdict: v,
         place: i as u64,
-        marks: marks,
         from: a.from,
         till: a.till,
     }
 }
 
 // A valid entry: one of a logger that is there must be the same again.
-fn gather(a: Gathering, s: Timestamp, i: usize, ratio: u64) -> Gathering
+fn gather(a: Span, marks: &mut [u64; 8], s: Timestamp, i: usize, ratio: u64) -> Span
     requires { ⌜ valid s ≡ true ⌝ }
-    ensures { λ r. ⌜ r ≡ gathered a s i ratio ⌝ }
+    ensures { λ r. ⌜ gatheringOf r (now (marks .exit)) ≡ gathered (gatheringOf a (now (marks .entry))) s i ratio ⌝ }
 {
     let k = s.logger as usize;
-    let marks = a.marks;
     let old = marks[k];
     let mark = open_calls::mark_of(s);
     if old == mark {
-        a
+        let v = a.verdict;
+        Span {
+            verdict: v,
+            place: a.place,
+            from: a.from,
+            till: a.till,
+        }
     } else if old == 0 {
-        gather_first(a, s, i, ratio)
+        gather_first(a, marks, s, i, ratio)
     } else {
         turned_back(a, Verdict::NotConcurrent, i)
     }
 }
 
 // The first entry of its logger: it must be concurrent with all before it.
-fn gather_first(a: Gathering, s: Timestamp, i: usize, ratio: u64) -> Gathering
+fn gather_first(a: Span, marks: &mut [u64; 8], s: Timestamp, i: usize, ratio: u64) -> Span
     requires { ⌜ valid s ≡ true ⌝ }
-    ensures { λ r. ⌜ r ≡ firstGathered a s i ratio ⌝ }
+    ensures { λ r. ⌜ gatheringOf r (now (marks .exit)) ≡ firstGathered (gatheringOf a (now (marks .entry))) s i ratio ⌝ }
 {
     let mark = open_calls::mark_of(s);
     if either(a.from < mark, mark <= a.till) {
         turned_back(a, Verdict::NotConcurrent, i)
     } else {
-        let marks = a.marks;
         let t = s.tick;
         let start = open_calls::global_start(t, ratio);
         let from = clear_from(start, ratio);
         let till = open_calls::clear_till(start, ratio);
-        let next = open_calls::raised(marks, s);
+        open_calls::raise(marks, s);
         let lower = smaller(a.from, from);
         let higher = open_calls::larger(a.till, till);
-        Gathering {
+        Span {
             verdict: Verdict::Accepted,
             place: 0,
-            marks: next,
             from: lower,
             till: higher,
         }
@@ -162,31 +172,40 @@ fn clear_from(start: u64, ratio: u64) -> u64
     std::num::wrapping_add_u64(start, two)
 }
 
-pub fn fold_gather(init: Gathering, list: &[Timestamp], ratio: u64) -> Gathering
-    ensures { λ r. ⌜ r ≡ foldGather ratio 0 init (now (list .entry)) ⌝ }
+// The marks stay in one place and are lent to each step.
+pub fn fold_gather(init: Span, list: &[Timestamp], ratio: u64) -> Gathering
+    ensures { λ r. ⌜ r ≡ foldGather ratio 0 (gatheringOf init noMarks) (now (list .entry)) ⌝ }
 {
+    let mut marks: [u64; 8] = [0; 8];
     let mut a = init;
     let mut i: usize = 0;
     while i < list.len() {
         let s = list[i];
-        a = gather_step(a, s, i, ratio);
+        a = gather_step(a, &mut marks, s, i, ratio);
         i = i + 1;
     }
-    a
+    Gathering {
+        span: a,
+        marks: marks,
+    }
 }
 
 // The same for the second list: called from one place each, both are compiled into `compare`.
-pub fn fold_second(init: Gathering, list: &[Timestamp], ratio: u64) -> Gathering
-    ensures { λ r. ⌜ r ≡ foldGather ratio 0 init (now (list .entry)) ⌝ }
+pub fn fold_second(init: Span, list: &[Timestamp], ratio: u64) -> Gathering
+    ensures { λ r. ⌜ r ≡ foldGather ratio 0 (gatheringOf init noMarks) (now (list .entry)) ⌝ }
 {
+    let mut marks: [u64; 8] = [0; 8];
     let mut a = init;
     let mut i: usize = 0;
     while i < list.len() {
         let s = list[i];
-        a = gather_step(a, s, i, ratio);
+        a = gather_step(a, &mut marks, s, i, ratio);
         i = i + 1;
     }
-    a
+    Gathering {
+        span: a,
+        marks: marks,
+    }
 }
 
 // Places run through both lists.
@@ -200,8 +219,9 @@ fn place_after(n: usize, place: u64) -> u64
 pub fn after_first(a: Gathering, n: usize, m: usize) -> CompareStart
     ensures { λ r. ⌜ r ≡ afterFirst a n m ⌝ }
 {
-    let v = a.verdict;
-    let place = a.place;
+    let span = a.span;
+    let v = span.verdict;
+    let place = span.place;
     if open_calls::is_refusal(v) {
         start_of(v, place)
     } else if open_calls::is_length(m) {
@@ -268,14 +288,16 @@ fn relate(first: [u64; 8], second: [u64; 8], from: u64, till: u64) -> Relation
 pub fn compare_done(a: Gathering, b: Gathering, n: usize) -> Comparison
     ensures { λ r. ⌜ r ≡ compareDone n a b ⌝ }
 {
-    let v = b.verdict;
+    let span = a.span;
+    let last = b.span;
+    let v = last.verdict;
     if open_calls::is_refusal(v) {
-        let place = place_after(n, b.place);
+        let place = place_after(n, last.place);
         refused_comparison(v, place)
     } else {
         let first = a.marks;
         let second = b.marks;
-        let r = relate(first, second, a.from, a.till);
+        let r = relate(first, second, span.from, span.till);
         Comparison {
             number: 0,
             place: 0,
@@ -296,12 +318,12 @@ pub fn compare(ratio: u64, first: &[Timestamp], second: &[Timestamp]) -> Compari
     if start.stop {
         return start.answer;
     }
-    let a = fold_gather(start.gathering, first, ratio);
+    let a = fold_gather(start.span, first, ratio);
     let middle = after_first(a, n, m);
     if middle.stop {
         return middle.answer;
     }
-    let b = fold_second(middle.gathering, second, ratio);
+    let b = fold_second(middle.span, second, ratio);
     compare_done(a, b, n)
 }
 

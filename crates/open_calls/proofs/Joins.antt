@@ -5,7 +5,7 @@ use mathlib.Core.List.{List, [], _∷_}
 use mathlib.Core.Logic.{⊎-elim}
 use Prim.Native.Nat.{ℕ, suc, _+_}
 use native.Mathlib.Omega.{arith}
-use lib.ListN.{length, replicate}
+use lib.ListN.{length}
 use Rattle.sequences.specs.Loops.{fold}
 use Rattle.sequences.specs.Select.{all}
 use Rattle.sequences.proofs.Booleans.{either-way, never-both, and-left, and-right}
@@ -17,30 +17,30 @@ use Rattle.timestamps.proofs.Join.{joinOf-list}
 use Rattle.open_calls.specs.declared.Joining.{Joining}
 use Rattle.open_calls.specs.declared.Verdict.the-variants.{Accepted, BadEntry}
 use Rattle.open_calls.specs.Answers.{numberOf, refusal, validLength, refusedJoin, firstInvalid, joinAnswer}
-use Rattle.open_calls.specs.Steps.{joinVerdict, nothingJoined, joinStart, joinStep, foldJoin, joinDone, joinRun}
+use Rattle.open_calls.specs.Steps.{joinVerdict, joiningOf, noMarks, nothingJudged, joinStart, joinStep, foldJoin, joinDone, joinRun}
 use Rattle.open_calls.specs.Marks.{raisedBy}
 use Rattle.open_calls.proofs.Folds.{join-none, join-next}
 use Rattle.open_calls.proofs.Marks.{latest-is, none-is}
 
 -- ---- the fold: after a bad entry nothing changes
-still : (i : ℕ) (a : Joining) (l : List Timestamp) → refusal (a .verdict) ≡ true → foldJoin i a l ≡ a
+still : (i : ℕ) (a : Joining) (l : List Timestamp) → refusal (a .judged .verdict) ≡ true → foldJoin i a l ≡ a
 unfolding joinStep
 still i a [] r = join-none i a
 still i a (s ∷ l) r = join-next i a s l ∙ rw r (still (suc i) a l r)
 
 -- every entry passes: the latest of each logger
 all-good : (i : ℕ) (m : List ℕ) (l : List Timestamp) → all valid l ≡ true
-    → foldJoin i (record { verdict = Accepted; place = 0; marks = m }) l ≡ record { verdict = Accepted; place = 0; marks = fold raisedBy l m }
+    → foldJoin i (joiningOf nothingJudged m) l ≡ joiningOf nothingJudged (fold raisedBy l m)
 unfolding all joinStep refusal numberOf
-all-good i m [] h = join-none i (record { verdict = Accepted; place = 0; marks = m }) ∙ rw (fold-none raisedBy m)
+all-good i m [] h = join-none i (joiningOf nothingJudged m) ∙ rw (fold-none raisedBy m)
 all-good i m (s ∷ l) h =
-    join-next i (record { verdict = Accepted; place = 0; marks = m }) s l
+    join-next i (joiningOf nothingJudged m) s l
     ∙ rw (and-left (valid s) (all valid l) h, fold-next raisedBy s l m) (all-good (suc i) (raisedBy m s) l (and-right (valid s) (all valid l) h))
 
 -- some entry does not: its place
 pub record Bad (i : ℕ) (l : List Timestamp) (a : Joining) : Type 0 where
-  verdict : a .verdict ≡ BadEntry
-  place : a .place ≡ i + firstInvalid l
+  verdict : a .judged .verdict ≡ BadEntry
+  place : a .judged .place ≡ i + firstInvalid l
 
 first-good : (s : Timestamp) (l : List Timestamp) → valid s ≡ true → firstInvalid (s ∷ l) ≡ suc (firstInvalid l)
 unfolding firstInvalid
@@ -50,17 +50,17 @@ first-bad : (s : Timestamp) (l : List Timestamp) → valid s ≡ false → first
 unfolding firstInvalid
 first-bad s l n = rw n
 
-some-bad : (i : ℕ) (m : List ℕ) (l : List Timestamp) → all valid l ≡ false → Bad i l (foldJoin i (record { verdict = Accepted; place = 0; marks = m }) l)
+some-bad : (i : ℕ) (m : List ℕ) (l : List Timestamp) → all valid l ≡ false → Bad i l (foldJoin i (joiningOf nothingJudged m) l)
 unfolding all joinStep refusal numberOf
 some-bad i m [] h = absurd (never-both refl h)
-some-bad i m (s ∷ l) h = rw (join-next i (record { verdict = Accepted; place = 0; marks = m }) s l) (⊎-elim (λ y. passes y (some-bad (suc i) (raisedBy m s) l (rw y at h))) fails (either-way (valid s)))
+some-bad i m (s ∷ l) h = rw (join-next i (joiningOf nothingJudged m) s l) (⊎-elim (λ y. passes y (some-bad (suc i) (raisedBy m s) l (rw y at h))) fails (either-way (valid s)))
   where
-    passes : valid s ≡ true → Bad (suc i) l (foldJoin (suc i) (record { verdict = Accepted; place = 0; marks = raisedBy m s }) l)
-        → Bad i (s ∷ l) (foldJoin (suc i) (joinStep (record { verdict = Accepted; place = 0; marks = m }) s i) l)
+    passes : valid s ≡ true → Bad (suc i) l (foldJoin (suc i) (joiningOf nothingJudged (raisedBy m s)) l)
+        → Bad i (s ∷ l) (foldJoin (suc i) (joinStep (joiningOf nothingJudged m) s i) l)
     passes y b = rw y (record { verdict = b .verdict; place = b .place ∙ omega (arith, first-good s l y) })
 
-    fails : valid s ≡ false → Bad i (s ∷ l) (foldJoin (suc i) (joinStep (record { verdict = Accepted; place = 0; marks = m }) s i) l)
-    fails n = rw (n, still (suc i) (record { verdict = BadEntry; place = i; marks = m }) l refl) (record { verdict = refl; place = omega (arith, first-bad s l n) })
+    fails : valid s ≡ false → Bad i (s ∷ l) (foldJoin (suc i) (joinStep (joiningOf nothingJudged m) s i) l)
+    fails n = rw (n, still (suc i) (joiningOf (record { verdict = BadEntry; place = i }) m) l refl) (record { verdict = refl; place = omega (arith, first-bad s l n) })
 
 -- ---- the answer
 pub join-is : (ratio : ℕ) (l : List Timestamp) → joinRun ratio l ≡ joinAnswer ratio l
@@ -74,9 +74,9 @@ join-is ratio l = ⊎-elim (λ r. ⊎-elim (λ n. ⊎-elim (good r n) (bad r n) 
     length-bad r n = rw (r, n)
 
     good : validRatio ratio ≡ true → validLength (length l) ≡ true → all valid l ≡ true → joinRun ratio l ≡ joinAnswer ratio l
-    good r n v = rw (r, n, v, all-good 0 (replicate 8 0) l v, latest-is (replicate 8 0) l v, none-is, joinOf-list ratio l (valid-placeable l v))
+    good r n v = rw (r, n, v, all-good 0 noMarks l v, latest-is noMarks l v, none-is, joinOf-list ratio l (valid-placeable l v))
 
     bad : validRatio ratio ≡ true → validLength (length l) ≡ true → all valid l ≡ false → joinRun ratio l ≡ joinAnswer ratio l
     bad r n v =
-        let b : Bad 0 l (foldJoin 0 nothingJoined l) = some-bad 0 (replicate 8 0) l v in
+        let b : Bad 0 l (foldJoin 0 (joiningOf nothingJudged noMarks) l) = some-bad 0 noMarks l v in
         rw (r, n, v, b .verdict, b .place) (ap (refusedJoin BadEntry) (omega arith))

@@ -6,7 +6,7 @@ ghost use Prim.Native.Nat.{max, _-_, _<_};
 ghost use Rattle.timestamps.specs.Order.{valid};
 ghost use Rattle.open_calls.specs.Answers.{joinAnswer, numberOf, refusal, refusedJoin, validLength};
 ghost use Rattle.open_calls.specs.Marks.{Highest, globalStart, markOf, raisedBy, settledTill, shownFrom, shownMark};
-ghost use Rattle.open_calls.specs.Steps.{foldJoin, joinDone, joinStart, joinStep, joinVerdict};
+ghost use Rattle.open_calls.specs.Steps.{foldJoin, joinDone, joinStart, joinStep, joinVerdict, joiningOf, noMarks};
 use timestamps::LocalTick;
 use timestamps::Timestamp;
 
@@ -76,19 +76,15 @@ pub fn mark_of(s: Timestamp) -> u64
 }
 
 // Of each logger the latest is kept.
-pub fn raised(marks: [u64; 8], s: Timestamp) -> [u64; 8]
+pub fn raise(marks: &mut [u64; 8], s: Timestamp)
     requires { ⌜ valid s ≡ true ⌝ }
-    ensures { λ r. ⌜ r ≡ raisedBy marks s ⌝ }
+    ensures { λ _. ⌜ now (marks .exit) ≡ raisedBy (now (marks .entry)) s ⌝ }
 {
     let k = s.logger as usize;
     let mark = mark_of(s);
     let old = marks[k];
     if old < mark {
-        let mut next = marks;
-        next[k] = mark;
-        next
-    } else {
-        marks
+        marks[k] = mark;
     }
 }
 
@@ -115,18 +111,23 @@ pub fn clear_till(start: u64, ratio: u64) -> u64
 
 // ---- the join
 
-// What has been joined of a list so far, and whether it was turned back.
-pub struct Joining {
+// How a list has been judged so far: turned back, and at which place, or not.
+pub struct Judged {
     pub verdict: Verdict,
     pub place: u64,
+}
+
+// What has been joined of a list: how it is judged, and the marks of its timestamps.
+pub struct Joining {
+    pub judged: Judged,
     pub marks: [u64; 8],
 }
 
-// Before the list is walked: turned back at once, or a join of nothing yet.
+// Before the list is walked: turned back at once, or nothing judged yet.
 pub struct JoinStart {
     pub stop: bool,
     pub answer: JoinAnswer,
-    pub joining: Joining,
+    pub judged: Judged,
 }
 
 pub fn join_verdict(ratio: u64, n: usize) -> Verdict
@@ -147,53 +148,59 @@ pub fn join_start(ratio: u64, n: usize) -> JoinStart
     let v = join_verdict(ratio, n);
     let stop = is_refusal(v);
     let answer = refused_join(v, 0);
-    let joining = Joining {
+    let judged = Judged {
         verdict: Verdict::Accepted,
         place: 0,
-        marks: [0; 8],
     };
     JoinStart {
         stop: stop,
         answer: answer,
-        joining: joining,
+        judged: judged,
     }
 }
 
-// One entry: after a bad one nothing changes.
-pub fn join_step(a: Joining, s: Timestamp, i: usize) -> Joining
-    ensures { λ r. ⌜ r ≡ joinStep a s i ⌝ }
+// One entry: after a bad one nothing changes. What is handed back is made anew in each case: `a` itself would be copied with its padding,
+// and every entry would wait for that copy.
+pub fn join_step(a: Judged, marks: &mut [u64; 8], s: Timestamp, i: usize) -> Judged
+    ensures { λ r. ⌜ joiningOf r (now (marks .exit)) ≡ joinStep (joiningOf a (now (marks .entry))) s i ⌝ }
 {
     let v = a.verdict;
-    let marks = a.marks;
+    let place = a.place;
     if is_refusal(v) {
-        a
+        Judged {
+            verdict: v,
+            place: place,
+        }
     } else if s.valid() {
-        let next = raised(marks, s);
-        Joining {
+        raise(marks, s);
+        Judged {
             verdict: Verdict::Accepted,
             place: 0,
-            marks: next,
         }
     } else {
-        Joining {
+        Judged {
             verdict: Verdict::BadEntry,
             place: i as u64,
-            marks: marks,
         }
     }
 }
 
-pub fn fold_join(init: Joining, list: &[Timestamp]) -> Joining
-    ensures { λ r. ⌜ r ≡ foldJoin 0 init (now (list .entry)) ⌝ }
+// The marks stay in one place and are lent to each step.
+pub fn fold_join(init: Judged, list: &[Timestamp]) -> Joining
+    ensures { λ r. ⌜ r ≡ foldJoin 0 (joiningOf init noMarks) (now (list .entry)) ⌝ }
 {
+    let mut marks: [u64; 8] = [0; 8];
     let mut a = init;
     let mut i: usize = 0;
     while i < list.len() {
         let s = list[i];
-        a = join_step(a, s, i);
+        a = join_step(a, &mut marks, s, i);
         i = i + 1;
     }
-    a
+    Joining {
+        judged: a,
+        marks: marks,
+    }
 }
 
 // The largest mark.
@@ -254,8 +261,9 @@ fn show(marks: [u64; 8], till: u64) -> [Timestamp; 8]
 pub fn join_done(a: Joining, ratio: u64) -> JoinAnswer
     ensures { λ r. ⌜ r ≡ joinDone ratio a ⌝ }
 {
-    let v = a.verdict;
-    let place = a.place;
+    let judged = a.judged;
+    let v = judged.verdict;
+    let place = judged.place;
     let marks = a.marks;
     if is_refusal(v) {
         refused_join(v, place)
@@ -280,6 +288,6 @@ pub fn join(ratio: u64, list: &[Timestamp]) -> JoinAnswer
     if start.stop {
         return start.answer;
     }
-    let a = fold_join(start.joining, list);
+    let a = fold_join(start.judged, list);
     join_done(a, ratio)
 }

@@ -7,8 +7,8 @@ use Rattle.comparisons.proofs.gather_step.Tie as tie
 use Rattle.comparisons.proofs.gather_step.Reads as reads
 use Rattle.comparisons.proofs.gather_step.Lts as lts
 use Rattle.comparisons.proofs.gather.Reads as gather-reads
-use Rattle.open_calls.proofs.is_refusal.Reads as is-refusal-reads
 use Rattle.comparisons.proofs.turned_back.Reads as turned-back-reads
+use Rattle.open_calls.proofs.is_refusal.Reads as is-refusal-reads
 use Rattle.timestamps.proofs.Timestamp.valid.Reads as valid-reads
 
 is-refusal-requires : tie.Need-is-refusal-requires
@@ -18,7 +18,7 @@ valid-requires : tie.Need-valid-requires
 valid-requires c κs = search needs
 
 gather-requires : tie.Need-gather-requires
-gather-requires c κs = sym (c .before .valid .ensures) ∙ c .if2 .taken
+gather-requires c κs = sym (c .before .before .valid .ensures) ∙ c .before .if2 .taken
 
 turned-back-requires : tie.Need-turned-back-requires
 turned-back-requires c κs = search needs
@@ -29,7 +29,7 @@ returns c = simp (sym (c .before .is-refusal .ensures) ∙ c .if1 .taken)
 
 returns-2 : tie.Need-returns-2
 unfolding gatherStep
-returns-2 c = simp (sym (c .before .before .before .before .is-refusal .ensures) ∙ c .before .before .before .if1 .left, sym (c .before .before .valid .ensures) ∙ c .before .if2 .taken, c .gather .ensures)
+returns-2 c = simp (sym (c .before .before .before .before .before .is-refusal .ensures) ∙ c .before .before .before .before .if1 .left, sym (c .before .before .before .valid .ensures) ∙ c .before .before .if2 .taken, c .gather .ensures)
 
 returns-3 : tie.Need-returns-3
 unfolding gatherStep

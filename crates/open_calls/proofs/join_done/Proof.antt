@@ -34,7 +34,7 @@ returns c = simp (sym (c .before .before .is-refusal .ensures) ∙ c .before .if
 
 returns-2 : tie.Need-returns-2
 unfolding joinDone
-returns-2 c = simp (sym (c .before .before .before .before .is-refusal .ensures) ∙ c .before .before .before .if1 .left, c .show .ensures, c .before .settled-till .ensures, shown-is (c .before .before .before .before .before .before .args .ratio) _ _ (c .before .before .highest .ensures))
+returns-2 c = simp (sym (c .before .before .before .before .is-refusal .ensures) ∙ c .before .before .before .if1 .left, c .show .ensures, c .before .settled-till .ensures, shown-is (c .before .before .before .before .before .before .before .args .ratio) _ _ (c .before .before .highest .ensures))
 
 pub join-done-spec : {M : Type 1} → statement M
 join-done-spec =
