@@ -31,7 +31,7 @@ use Rattle.emissions.specs.Emissions.{emitted, emittedAll, numberOf}
 use Rattle.arrivals.specs.Arrivals.{andArrived, findingsOf, joinsBy, metBy, restOf, waited}
 use Rattle.operators.specs.Turns.{arrived, nodeTurn, orArrived, seqLeft, seqRight}
 use Rattle.progress.specs.Progress.{arrivalsOf, closed, eventStep, nodeStep, numbersByPlace, runOf, start, turnAt, turned}
-use Rattle.gateway.specs.Working.{worked}
+use Rattle.working.specs.Working.{worked}
 use Rattle.bridge_examples.specs.Examples.{eachWith, holds, limits, operators, sameNumbers, sameWork, sevens, table}
 
 -- every row of the table: J1 to J8, D1 to D4

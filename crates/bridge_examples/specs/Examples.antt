@@ -5,7 +5,7 @@ use Prim.Native.Nat.{ℕ, _+_}
 use lib.Dec.{eqb}
 use Rattle.sequences.specs.Range.{range}
 use Rattle.timestamps.specs.Examples as stamps
-use Rattle.gateway.specs.Working.{Work, worked}
+use Rattle.working.specs.Working.{Work, worked}
 
 -- how the work ends: number, place, findings and their bytes
 abbrev ending : ℕ → ℕ → ℕ → List ℕ → Work

@@ -18,30 +18,30 @@ ghost use Rattle.contexts.specs.Table.{contextOf, each, recent, removesO
 
 // ---- the table
 
-// A row of document 01's table, by codes.
+// A row of document 01's table, by codes: small numbers, since a row is looked up at every meeting.
 pub struct Row {
-    pub taken: u64,
-    pub findings: u64,
-    pub removed: u64,
+    pub taken: u8,
+    pub findings: u8,
+    pub removed: u8,
 }
 
 impl Row {
     // Taken: candidates before no other candidate; those with no other candidate before them; all.
-    pub const LATEST: u64 = 0;
+    pub const LATEST: u8 = 0;
 
-    pub const EARLIEST: u64 = 1;
+    pub const EARLIEST: u8 = 1;
 
-    pub const EVERY: u64 = 2;
+    pub const EVERY: u8 = 2;
     // Findings: one for each taken; one for all together.
-    pub const EACH: u64 = 0;
+    pub const EACH: u8 = 0;
 
-    pub const TOGETHER: u64 = 1;
+    pub const TOGETHER: u8 = 1;
     // Removed: candidates not taken; those taken; all.
-    pub const UNTAKEN: u64 = 0;
+    pub const UNTAKEN: u8 = 0;
 
-    pub const TAKEN: u64 = 1;
+    pub const TAKEN: u8 = 1;
 
-    pub const ALL: u64 = 2;
+    pub const ALL: u8 = 2;
 }
 
 // The table, in document 01's order: contexts 1 to 4.
@@ -135,24 +135,23 @@ pub struct Choice {
     pub removed: u64,
 }
 
-// The earliest timestamp of each of the first n.
-fn lows_of(list: &[[u64; 3]; 16], n: usize, ticks: &[u64; 256]) -> [u64; 16]
+// The earliest timestamp of each of the first n, filled in: an array handed back by value would be copied.
+fn lows_of(list: &[[u64; 3]; 16], n: usize, ticks: &[u64; 256], lows: &mut [u64; 16])
     requires { ⌜ (n ≤ 16) × (getD (now ticks) 0 0 ≡ 0) ⌝ }
-    ensures { λ r. ⌜ Lows (now (ticks .entry)) (now (list .entry)) n r ⌝ }
+    ensures { λ _. ⌜ Lows (now (ticks .entry)) (now (list .entry)) n (now (lows .exit)) ⌝ }
 {
-    let mut lows = [0u64; 16];
+    let places = lows[..].len();
     let mut i: usize = 0;
     while i < n {
         lows[i] = occurrences::lowest(&list[i], ticks);
         i = i + 1;
     }
-    lows
 }
 
 // Whether c, where it is a candidate, keeps w from being taken; beside each its earliest timestamp.
 fn bars(
     mark: bool,
-    rule: u64,
+    rule: u8,
     low: u64,
     w: &[u64; 3],
     other: u64,
@@ -176,7 +175,7 @@ fn bars(
 
 // Whether some candidate keeps the one at place i from being taken.
 fn barred(
-    rule: u64,
+    rule: u8,
     i: usize,
     list: &[[u64; 3]; 16],
     lows: &[u64; 16],
@@ -212,7 +211,7 @@ fn barred(
 // Whether the one at place i, where it is a candidate, is taken.
 fn is_taken(
     mark: bool,
-    rule: u64,
+    rule: u8,
     i: usize,
     list: &[[u64; 3]; 16],
     lows: &[u64; 16],
@@ -233,7 +232,7 @@ fn is_taken(
 
 // Those that a rule takes of the candidates.
 fn taken_by(
-    rule: u64,
+    rule: u8,
     list: &[[u64; 3]; 16],
     waiting: usize,
     candidates: u64,
@@ -247,7 +246,8 @@ fn taken_by(
     if Row::EVERY <= rule {
         return candidates & all_waiting(n);
     }
-    let lows = lows_of(list, n, ticks);
+    let mut lows = [0u64; 16];
+    lows_of(list, n, ticks, &mut lows);
     let mut marks: u64 = 0;
     let mut i: usize = 0;
     while i < n {
@@ -270,7 +270,7 @@ fn taken_by(
 }
 
 // Those that a rule removes.
-fn removed_by(rule: u64, candidates: u64, taken: u64) -> u64
+fn removed_by(rule: u8, candidates: u64, taken: u64) -> u64
     ensures { λ r. ⌜ marksOf r ≡ removedOf (removesOf rule) (marksOf candidates) (marksOf taken) ⌝ }
 {
     if rule == Row::UNTAKEN {

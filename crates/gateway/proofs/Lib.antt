@@ -1,3 +1,1 @@
-pub mod Latest
-pub mod Theorems
 pub mod Working

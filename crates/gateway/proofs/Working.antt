@@ -2,23 +2,37 @@
 use mathlib.Core.Bool.{true, false}
 use mathlib.Core.List.{List}
 use mathlib.Core.Path.{_≡_, refl, sym, ap, subst, _∙_}
-use Prim.Native.Nat.{ℕ}
+use Prim.Native.Nat.{ℕ, _≤_}
 use lib.Dec.{eqb}
-use Rattle.sequences.specs.Choice.{pick}
+use lib.ListN.{take}
+use Rattle.forms.specs.Bytes.{Bytes}
 use Rattle.plans.specs.Layout.{Plan}
-use Rattle.plans.specs.Reader.{PlanAnswer}
+use Rattle.plans.specs.Faults.{numberOf as planNumber}
+use Rattle.plans.specs.Reader.{PlanAnswer, readPlan}
+use Rattle.plans.specs.Views.{answerOf}
+use Rattle.plans.specs.declared.PlanRead.{PlanRead}
+use Rattle.plans.proofs.Theorems.{accepted-ok}
 use Rattle.passages.specs.Events.{passageEvents}
 use Rattle.passages.specs.Faults.{numberOf as passageNumber}
 use Rattle.passages.specs.Reader.{readPassage}
-use Rattle.passages.specs.Views.{Checked, Noted, checkOf, counted, heldEvents}
+use Rattle.passages.specs.Views.{Checked, Noted, Rising, checkOf, counted, heldEvents}
 use Rattle.passages.specs.declared.Event.{Event}
 use Rattle.passages.specs.declared.PassageCheck.{PassageCheck}
-use Rattle.emissions.specs.Emissions.{reached}
-use Rattle.progress.specs.Progress.{Progress, runOf}
-use Rattle.detector.specs.Steps.{Ran, Says}
+use Rattle.progress.specs.Progress.{runOf}
+use Rattle.detector.specs.Steps.{Ran}
 use Rattle.detector.specs.declared.Run.{Run}
-use Rattle.gateway.specs.declared.Answer.{Answer}
-use Rattle.gateway.specs.Working.{Answers, Work, endOf, planWorked, turnedBack}
+use Rattle.gateway.specs.Steps.{PlanHeld}
+use Rattle.working.specs.Working.{endOf, planWorked, turnedBack}
+
+-- what is known of a plan that was read
+pub read-held : (b : List ℕ) (r : PlanRead) (loggers kinds : List ℕ) (nodes : List (List ℕ)) → Bytes b → answerOf r loggers kinds nodes ≡ readPlan b
+    → r .«logger_count» ≤ 8 → r .«kind_count» ≤ 32 → r .«node_count» ≤ 16 → PlanHeld r loggers kinds
+read-held b r loggers kinds nodes B e l k n = record { loggers-most = l; kinds-most = k; nodes-most = n; rising = rising }
+  where
+    rising : planNumber (r .fault) ≡ 0 → Rising (take (r .«kind_count») kinds) × Rising (take (r .«logger_count») loggers)
+    rising z =
+        let ok = accepted-ok b B (sym (ap (λ (a : PlanAnswer). a .number) e) ∙ z) in
+        (subst (λ (a : PlanAnswer). Rising (a .plan .kinds)) (sym e) (ok .kinds .rising), subst (λ (a : PlanAnswer). Rising (a .plan .loggers)) (sym e) (ok .loggers .rising))
 
 -- under what reading the plan answers
 module _ (room : ℕ) (passage : List ℕ) (a : PlanAnswer) where
@@ -45,17 +59,3 @@ module _ (events : List Event) (count : ℕ) (kinds loggers ticks : List ℕ) (n
 
   pub ran-noted : (p : Plan) (out : List ℕ) (r : Run) (out′ : List ℕ) → Ran p (heldEvents count kinds loggers ticks) out r out′ → Ran p events out r out′
   ran-noted p out r out′ ran = subst (λ (es : List Event). Ran p es out r out′) (noted .held) ran
-
--- the answer on a run
-pub run-answers : (p : Progress) (out : List ℕ) (r : Run) (out′ : List ℕ) (place : ℕ) → Says p out r out′ → place ≡ pick (reached (r .limit)) (r .event) 0
-    → Answers (endOf p) out (record { number = r .limit; place = place; findings = r .findings; bytes = r .bytes }) out′
-run-answers p out r out′ place s k = record {
-  number = s .limit;
-  place = k ∙ rw (s .limit, s .event);
-  findings = s .findings;
-  bytes = s .bytes;
-  written = s .written;
-}
-
-pub answers-same : (v w : Work) (out : List ℕ) (r : Answer) (out′ : List ℕ) → v ≡ w → Answers w out r out′ → Answers v out r out′
-answers-same v w out r out′ e a = subst (λ (x : Work). Answers x out r out′) (sym e) a

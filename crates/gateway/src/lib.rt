@@ -1,24 +1,17 @@
 // File working: a passage under a plan, both from their bytes, into a lent output.
 ghost use mathlib.Core.List.{List};
 ghost use mathlib.Core.Path.{_≡_};
-ghost use Prim.Native.Nat.{ℕ, _≤_};
+ghost use Prim.Native.Nat.{ℕ, min, _+_, _≤_};
 ghost use lib.ListN.{length, take};
 ghost use Rattle.sequences.specs.Choice.{pick};
 ghost use Rattle.plans.specs.Views.{answerOf};
 ghost use Rattle.emissions.specs.Emissions.{reached};
 ghost use Rattle.progress.specs.Progress.{Progress};
 ghost use Rattle.detector.specs.Steps.{Says};
-ghost use Rattle.gateway.specs.Latest.{LatestExact};
-ghost use Rattle.gateway.specs.Working.{Answers, endOf, planWorked, turnedBack, worked};
-
-// 0, or the number of the fault or limit; its place; the findings, and the bytes they take.
-#[repr(C)]
-pub struct Answer {
-    pub number: u64,
-    pub place: u64,
-    pub findings: u64,
-    pub bytes: u64,
-}
+ghost use Rattle.working.specs.Latest.{LatestExact};
+ghost use Rattle.working.specs.Working.{Answers, endOf, planWorked, turnedBack, worked};
+ghost use Rattle.gateway.specs.Steps.{PlanHeld};
+use working::Answer;
 
 // A file is turned back: no finding, no byte.
 fn turned_back(number: u64, place: usize) -> Answer
@@ -52,7 +45,7 @@ fn ended(run: detector::Run) -> Answer
     }
 }
 
-// Under the plan that was read, or its fault: the passage is checked whole, then its events are worked.
+// Under the plan that was read, or its fault: the passage is checked whole, then its events are worked, in a table of ticks and in rows that are lent.
 fn work_under(
     read: plans::PlanRead,
     loggers: &[u16; 8],
@@ -60,8 +53,12 @@ fn work_under(
     nodes: &[[u16; 4]; 16],
     passage: &[u8],
     output: &mut [u8],
+    ticks: &mut [u64; 256],
+    lefts: &mut [[[u64; 3]; 16]],
+    rights: &mut [[[u64; 3]; 16]],
+    made: &mut [[[u64; 3]; 8]],
 ) -> Answer
-    requires { ⌜ (read .«logger_count» ≤ 8) × (read .«kind_count» ≤ 32) ⌝ }
+    requires { ⌜ PlanHeld read (now loggers) (now kinds) × (min (read .«node_count») 16 ≤ length (now lefts)) × (min (read .«node_count») 16 ≤ length (now rights)) × (min (read .«node_count») 16 + 1 ≤ length (now made)) ⌝ }
     ensures { λ r. ⌜ Answers (planWorked (length (now (output .entry))) (now (passage .entry)) (answerOf read (now (loggers .entry)) (now (kinds .entry)) (now (nodes .entry)))) (now (output .entry)) r (now (output .exit)) ⌝ }
 {
     let plan_fault = read.fault;
@@ -74,20 +71,19 @@ fn work_under(
     let l = read.logger_count;
     let mut kind_places = [0u8; 128];
     let mut logger_places = [0u8; 128];
-    let mut ticks = [0u64; 256];
     let check = passages::check_passage(
         &kind_numbers[..k],
         &logger_numbers[..l],
         passage,
         &mut kind_places,
         &mut logger_places,
-        &mut ticks,
+        ticks,
     );
     let passage_fault = check.fault;
     if !passage_fault.is_none() {
         return turned_back(passage_fault.number(), check.place);
     }
-    let run = detector::run_events(
+    let run = detector::run_in(
         read.ratio,
         loggers,
         l,
@@ -96,10 +92,77 @@ fn work_under(
         check.count,
         &kind_places,
         &logger_places,
-        &ticks,
+        ticks,
+        lefts,
+        rights,
+        made,
         output,
     );
     ended(run)
+}
+
+// The same in memory of its own, with rows as many as the plan has use for: it is cleared first, which takes longer than a short passage.
+fn work_alone(
+    read: plans::PlanRead,
+    loggers: &[u16; 8],
+    kinds: &[u16; 32],
+    nodes: &[[u16; 4]; 16],
+    passage: &[u8],
+    output: &mut [u8],
+) -> Answer
+    requires { ⌜ PlanHeld read (now loggers) (now kinds) ⌝ }
+    ensures { λ r. ⌜ Answers (planWorked (length (now (output .entry))) (now (passage .entry)) (answerOf read (now (loggers .entry)) (now (kinds .entry)) (now (nodes .entry)))) (now (output .entry)) r (now (output .exit)) ⌝ }
+{
+    let mut ticks = [0u64; 256];
+    if read.node_count < 2 {
+        let mut lefts = [[[0u64; 3]; 16]; 1];
+        let mut rights = [[[0u64; 3]; 16]; 1];
+        let mut made = [[[0u64; 3]; 8]; 2];
+        return work_under(
+            read,
+            loggers,
+            kinds,
+            nodes,
+            passage,
+            output,
+            &mut ticks,
+            &mut lefts,
+            &mut rights,
+            &mut made,
+        );
+    }
+    if read.node_count < 5 {
+        let mut lefts = [[[0u64; 3]; 16]; 4];
+        let mut rights = [[[0u64; 3]; 16]; 4];
+        let mut made = [[[0u64; 3]; 8]; 5];
+        return work_under(
+            read,
+            loggers,
+            kinds,
+            nodes,
+            passage,
+            output,
+            &mut ticks,
+            &mut lefts,
+            &mut rights,
+            &mut made,
+        );
+    }
+    let mut lefts = [[[0u64; 3]; 16]; 16];
+    let mut rights = [[[0u64; 3]; 16]; 16];
+    let mut made = [[[0u64; 3]; 8]; 17];
+    work_under(
+        read,
+        loggers,
+        kinds,
+        nodes,
+        passage,
+        output,
+        &mut ticks,
+        &mut lefts,
+        &mut rights,
+        &mut made,
+    )
 }
 
 // Both files are checked whole, the plan first; then the passage's events are worked.
@@ -111,5 +174,36 @@ pub fn work(plan: &[u8], passage: &[u8], output: &mut [u8]) -> Answer
     let mut kinds = [0u16; 32];
     let mut nodes = [[0u16; 4]; 16];
     let read = plans::read_plan(plan, &mut loggers, &mut kinds, &mut nodes);
-    work_under(read, &loggers, &kinds, &nodes, passage, output)
+    work_alone(read, &loggers, &kinds, &nodes, passage, output)
+}
+
+// The same in memory that is lent: whatever it holds is not looked at, so that nothing has to be cleared.
+pub fn work_in(
+    plan: &[u8],
+    passage: &[u8],
+    output: &mut [u8],
+    ticks: &mut [u64; 256],
+    lefts: &mut [[[u64; 3]; 16]; 16],
+    rights: &mut [[[u64; 3]; 16]; 16],
+    made: &mut [[[u64; 3]; 8]; 17],
+) -> Answer
+    ensures answers { λ r. ⌜ Answers (worked (now (plan .entry)) (now (passage .entry)) (length (now (output .entry)))) (now (output .entry)) r (now (output .exit)) ⌝ }
+    ensures latest { λ r. ⌜ LatestExact (now (plan .entry)) (now (passage .entry)) (r .findings) (take (r .bytes) (now (output .exit))) ⌝ }
+{
+    let mut loggers = [0u16; 8];
+    let mut kinds = [0u16; 32];
+    let mut nodes = [[0u16; 4]; 16];
+    let read = plans::read_plan(plan, &mut loggers, &mut kinds, &mut nodes);
+    work_under(
+        read,
+        &loggers,
+        &kinds,
+        &nodes,
+        passage,
+        output,
+        ticks,
+        lefts,
+        rights,
+        made,
+    )
 }

@@ -3,7 +3,7 @@ use mathlib.Core.Path.{_≡_, refl}
 use mathlib.Core.List.{List, [], _∷_}
 use Prim.Native.Nat.{ℕ}
 use Rattle.detections.specs.Findings.{Finding}
-use Rattle.gateway.specs.declared.Answer.{Answer}
+use Rattle.working.specs.declared.Answer.{Answer}
 use Rattle.listing.specs.Text.{decimalOf, numberText, stampText, listed, lineText, endText}
 
 -- node 0, stamp 2:110, events 1 and 2

@@ -8,10 +8,10 @@ use Rattle.sequences.specs.Members.{_∈_}
 use Rattle.forms.specs.Bytes.{Bytes}
 use Rattle.plans.specs.Reader.{readPlan}
 use Rattle.detections.specs.Findings.{Finding, findingsBytes}
-use Rattle.gateway.specs.declared.Answer.{Answer}
-use Rattle.gateway.specs.Latest.{ExactFinding, LatestExact, entriesOf}
-use Rattle.gateway.specs.Working.{Answers, worked}
-use Rattle.gateway.proofs.Theorems.{worked-exact}
+use Rattle.working.specs.declared.Answer.{Answer}
+use Rattle.working.specs.Latest.{ExactFinding, LatestExact, entriesOf}
+use Rattle.working.specs.Working.{Answers, worked}
+use Rattle.working.proofs.Theorems.{worked-exact}
 use Rattle.listing.specs.Text.{linesText, linesAt}
 use Rattle.listing.proofs.Theorems.{lines-of-findings}
 

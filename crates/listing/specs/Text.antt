@@ -6,7 +6,7 @@ use Rattle.sequences.specs.Choice.{pick}
 use Rattle.detections.specs.declared.Stamp.{Stamp}
 use Rattle.detections.specs.Findings.{Finding}
 use Rattle.readings.specs.Reader.{readFinding}
-use Rattle.gateway.specs.declared.Answer.{Answer}
+use Rattle.working.specs.declared.Answer.{Answer}
 
 -- ---- numbers
 

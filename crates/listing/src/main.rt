@@ -2,10 +2,10 @@
 // 01's form. Of a file that cannot be read it says so on standard error, and prints nothing.
 use detections::Stamp;
 use event_sets::EventSet;
-use gateway::Answer;
 use libc::STDERR_FILENO;
 use libc::STDOUT_FILENO;
 use readings::FindingRead;
+use working::Answer;
 ghost use Prim.Native.Nat.{_+_, _-_, _≤_, _<_};
 ghost use lib.ListN.{length, take};
 ghost use mathlib.Core.Bool.{true};

@@ -1,14 +1,14 @@
 // The C interface: include/rathunxa.h declares these functions. Each only passes its arguments on.
 ghost use mathlib.Core.Path.{_≡_};
 ghost use lib.ListN.{length, take};
-ghost use Rattle.gateway.specs.Latest.{LatestExact};
-ghost use Rattle.gateway.specs.Working.{Answers, worked};
+ghost use Rattle.working.specs.Latest.{LatestExact};
+ghost use Rattle.working.specs.Working.{Answers, worked};
 ghost use Rattle.comparisons.specs.Answers.{compareAnswer};
 ghost use Rattle.open_calls.specs.Answers.{joinAnswer};
 use comparisons::Comparison;
-use gateway::Answer;
 use open_calls::JoinAnswer;
 use timestamps::Timestamp;
+use working::Answer;
 
 #[no_mangle]
 pub extern "C" fn rathunxa_work(plan: &[u8], passage: &[u8], output: &mut [u8]) -> Answer
@@ -16,6 +16,22 @@ pub extern "C" fn rathunxa_work(plan: &[u8], passage: &[u8], output: &mut [u8]) 
     ensures latest { λ r. ⌜ LatestExact (now (plan .entry)) (now (passage .entry)) (r .findings) (take (r .bytes) (now (output .exit))) ⌝ }
 {
     gateway::work(plan, passage, output)
+}
+
+#[no_mangle]
+pub extern "C" fn rathunxa_work_in(
+    plan: &[u8],
+    passage: &[u8],
+    output: &mut [u8],
+    ticks: &mut [u64; 256],
+    lefts: &mut [[[u64; 3]; 16]; 16],
+    rights: &mut [[[u64; 3]; 16]; 16],
+    made: &mut [[[u64; 3]; 8]; 17],
+) -> Answer
+    ensures answers { λ r. ⌜ Answers (worked (now (plan .entry)) (now (passage .entry)) (length (now (output .entry)))) (now (output .entry)) r (now (output .exit)) ⌝ }
+    ensures latest { λ r. ⌜ LatestExact (now (plan .entry)) (now (passage .entry)) (r .findings) (take (r .bytes) (now (output .exit))) ⌝ }
+{
+    gateway::work_in(plan, passage, output, ticks, lefts, rights, made)
 }
 
 #[no_mangle]

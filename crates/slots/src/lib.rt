@@ -3,7 +3,7 @@ ghost use mathlib.Core.Path.{_≡_};
 ghost use Prim.Native.Nat.{ℕ, _-_, _≤_, _<_};
 ghost use lib.Count.{trailingZeros};
 ghost use lib.ListN.{getD};
-ghost use Rattle.progress.specs.Steps.{Slots, Takers, dueAfter, slotAt};
+ghost use Rattle.progress.specs.Steps.{Slots, Takers, dueAfter, noCounts, slotAt};
 
 // Where what arrives by an input of node k is counted: at its place for a kind, past the kinds for an earlier node; any other input where nothing is.
 // The node's row holds its left input at place 2 and its right input at place 3.
@@ -30,26 +30,25 @@ pub fn row_of(slot: usize) -> usize
     if slot < 33 { 0 } else { slot - 33 }
 }
 
-// The slots of the nodes' inputs on one side.
-pub fn slots_of(nodes: &[[u16; 4]; 16], n: usize, side: usize) -> [u8; 16]
+// The slots of the nodes' inputs on one side, into an array that is lent.
+pub fn slots_of(nodes: &[[u16; 4]; 16], n: usize, side: usize, slots: &mut [u8; 16])
     requires { ⌜ (n ≤ 16) × (side < 4) ⌝ }
-    ensures { λ r. ⌜ Slots side n (now (nodes .entry)) r ⌝ }
+    ensures { λ _. ⌜ Slots side n (now (nodes .entry)) (now (slots .exit)) ⌝ }
 {
-    let mut slots = [0u8; 16];
+    // The array as a slice is what tells the proof its length.
+    let places = slots[..].len();
     let mut k: usize = 0;
     while k < n {
         slots[k] = slot_of(&nodes[k], side, k);
         k = k + 1;
     }
-    slots
 }
 
-// For each slot the nodes that look there, as bits.
-pub fn takers(lefts: &[u8; 16], rights: &[u8; 16], n: usize) -> [u16; 50]
-    requires { ⌜ (n ≤ 16) × ((k : ℕ) → k < n → (getD (now lefts) k 0 < 50) × (getD (now rights) k 0 < 50)) ⌝ }
-    ensures { λ r. ⌜ Takers (now (lefts .entry)) (now (rights .entry)) n r ⌝ }
+// For each slot the nodes that look there, as bits, into a table that is lent with none in it.
+pub fn takers(lefts: &[u8; 16], rights: &[u8; 16], n: usize, nodes: &mut [u16; 50])
+    requires { ⌜ (n ≤ 16) × ((k : ℕ) → k < n → (getD (now lefts) k 0 < 50) × (getD (now rights) k 0 < 50)) × (now nodes ≡ noCounts) ⌝ }
+    ensures { λ _. ⌜ Takers (now (lefts .entry)) (now (rights .entry)) n (now (nodes .exit)) ⌝ }
 {
-    let mut nodes = [0u16; 50];
     let mut k: usize = 0;
     while k < n {
         let a = lefts[k] as usize;
@@ -59,7 +58,6 @@ pub fn takers(lefts: &[u8; 16], rights: &[u8; 16], n: usize) -> [u16; 50]
         nodes[b] = nodes[b] | node;
         k = k + 1;
     }
-    nodes
 }
 
 // The first of the nodes that are due.

@@ -10,10 +10,10 @@ use Rattle.contexts.proofs.lows_of.Statement.{statement}
 use Rattle.contexts.proofs.lows_of.Tie as tie
 
 abbrev Inv-loop : tie.InvT-loop
-Inv-loop list n ticks lows₀ i₀ lows i = (i ≤ n) × (length lows ≡ 16) × Lows ticks list i lows
+Inv-loop list n ticks lows₀ places i₀ lows i = (i ≤ n) × (length lows ≡ 16) × Lows ticks list i lows
 
 abbrev μ-loop : tie.MeasureT-loop
-μ-loop list n ticks lows₀ i₀ lows i = n - i
+μ-loop list n ticks lows₀ places i₀ lows i = n - i
 
 loop-holds : tie.Need-loop-holds Inv-loop μ-loop
 loop-holds c = (search needs, search needs, λ j l. absurd (omega (arith, l)))
@@ -30,8 +30,8 @@ lowest-requires c κs = search needs
 mul-lows : tie.Need-mul-lows Inv-loop μ-loop
 mul-lows c = search needs
 
-array-write-lows : tie.Need-array-write-lows Inv-loop μ-loop
-array-write-lows c = search needs
+element-write-lows : tie.Need-element-write-lows Inv-loop μ-loop
+element-write-lows c = search needs
 
 add-i : tie.Need-add-i Inv-loop μ-loop
 add-i c = search needs
@@ -42,7 +42,7 @@ loop-less c = search needs
 loop-again : tie.Need-loop-again Inv-loop μ-loop
 loop-again c =
     let b = c .before .before .before in
-    (search needs, simp length-set (b .loop .inv .1), lows-turn _ (b .before .args .list .now) (b .loop .lows) (b .loop .i) _ (omega arith) (c .lowest .ensures) (b .loop .inv .2))
+    (search needs, simp length-set (b .loop .inv .1), lows-turn _ (b .before .before .before .args .list .now) (b .loop .lows) (b .loop .i) _ (omega arith) (c .lowest .ensures) (b .loop .inv .2))
 
 returns : tie.Need-returns Inv-loop μ-loop
 returns c = λ i l. c .before .loop .inv .2 i (omega (arith, l))
@@ -58,7 +58,7 @@ lows-of-spec =
     index-1-lowest
     lowest-requires
     mul-lows
-    array-write-lows
+    element-write-lows
     add-i
     loop-less
     loop-again

@@ -54,7 +54,7 @@ is-marked-requires c κs = search needs
 is-taken-requires : tie.Need-is-taken-requires Inv-loop μ-loop
 is-taken-requires c κs =
     let b = c .before .before .before in
-    let q = b .before .before .before in
+    let q = b .before .before .before .before in
     let n = q .count-in .ensures .0 (q .before .args .ticks .now) in
     (omega (arith, n), rw n at (b .before .lows-of .ensures))
 
@@ -72,7 +72,7 @@ loop-again c =
     let k = c .before in
     let m = k .before .before in
     let b = m .before .before in
-    let q = b .before .before .before in
+    let q = b .before .before .before .before in
     let s = q .before in
     let ticks = s .args .ticks .now in
     let r = s .args .list .now in
@@ -88,7 +88,7 @@ returns-2 : tie.Need-returns-2 Inv-loop μ-loop
 unfolding takenOf
 returns-2 c =
     let b = c .before in
-    let q = b .before .before .before in
+    let q = b .before .before .before .before in
     let s = q .before in
     let ticks = s .args .ticks .now in
     let r = s .args .list .now in

@@ -1,5 +1,5 @@
 -- The answer says what the run says.
-use Rattle.gateway.proofs.Working.{run-answers}
+use Rattle.working.proofs.Answers.{run-answers}
 use borrow.Author.Needs.{needs}
 use Rattle.gateway.proofs.ended.Statement.{statement}
 use Rattle.gateway.proofs.ended.Tie as tie

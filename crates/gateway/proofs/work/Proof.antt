@@ -2,8 +2,10 @@
 use mathlib.Core.Path.{sym, ap}
 use native.Mathlib.Omega.{arith}
 use lib.ListN.{length}
-use Rattle.gateway.proofs.Theorems.{told}
-use Rattle.gateway.specs.Working.{planWorked, worked}
+use Rattle.working.proofs.Theorems.{told}
+use Rattle.gateway.proofs.Working.{read-held}
+use Rattle.gateway.specs.Steps.{PlanHeld}
+use Rattle.working.specs.Working.{planWorked, worked}
 use borrow.Author.Needs.{needs}
 use Rattle.gateway.proofs.work.Statement.{statement}
 use Rattle.gateway.proofs.work.Tie as tie
@@ -11,8 +13,15 @@ use Rattle.gateway.proofs.work.Tie as tie
 read-plan-requires : tie.Need-read-plan-requires
 read-plan-requires c κs = search needs
 
-work-under-requires : tie.Need-work-under-requires
-work-under-requires c κs = search needs
+-- the plan as it was read
+held-of : (p : tie.After-read-plan) → PlanHeld (p .read-plan .result) (p .read-plan .last .1 .0) (p .read-plan .last .1 .1 .0)
+held-of p =
+    let known = p .before .before .before .before .before in
+    let e = p .read-plan .ensures in
+    read-held (known .before .before .args .plan .now) (p .read-plan .result) _ _ (p .read-plan .last .1 .1 .1 .0) (λ i. omega (arith, known .before .shared-slice-known .given i)) (e .0) (e .1) (e .2) (e .3)
+
+work-alone-requires : tie.Need-work-alone-requires
+work-alone-requires c κs = held-of (c .before .before .before .before)
 
 same-length : tie.Need-same-length
 same-length c = search needs
@@ -27,7 +36,7 @@ returns c =
     told (a .plan .now) (a .passage .now) (length (a .output .now)) _ _ _ _
     (λ i. omega (arith, known .before .shared-slice-known .given i)) (λ i. omega (arith, known .shared-slice-known2 .given i))
     (ap (planWorked (length (a .output .now)) (a .passage .now)) (sym (p .read-plan .ensures .0)))
-    (under .work-under .ensures)
+    (under .work-alone .ensures)
 
 pub work-spec : {M : Type 1} → statement M
-work-spec = tie.close (tie.spec read-plan-requires work-under-requires same-length returns)
+work-spec = tie.close (tie.spec read-plan-requires work-alone-requires same-length returns)

@@ -9,8 +9,9 @@ use lib.Seq.{length-take-le}
 use Rattle.passages.specs.Faults.{numberOf}
 use Rattle.plans.specs.Reader.{PlanAnswer}
 use Rattle.plans.specs.Views.{answerOf}
-use Rattle.gateway.proofs.Working.{answers-same, both-accepted, noted-themselves, passage-refused, plan-refused, ran-noted}
-use Rattle.gateway.specs.Working.{turnedBack}
+use Rattle.working.proofs.Answers.{answers-same}
+use Rattle.gateway.proofs.Working.{both-accepted, noted-themselves, passage-refused, plan-refused, ran-noted}
+use Rattle.working.specs.Working.{turnedBack}
 use borrow.Author.Needs.{needs}
 use Rattle.gateway.proofs.work_under.Statement.{statement}
 use Rattle.gateway.proofs.work_under.Tie as tie
@@ -49,15 +50,19 @@ returns c =
     (c .turned-back .ensures _)
 
 slice-aggregate-check-passage : tie.Need-slice-aggregate-check-passage
-slice-aggregate-check-passage c = sym (length-take-le _ _ (omega arith))
+slice-aggregate-check-passage c = sym (length-take-le _ _ (omega (arith, start-of (c .before .before .before) .pre .0 .kinds-most)))
 
 slice-aggregate-check-passage-2 : tie.Need-slice-aggregate-check-passage-2
-slice-aggregate-check-passage-2 c = sym (length-take-le _ _ (omega arith))
+slice-aggregate-check-passage-2 c = sym (length-take-le _ _ (omega (arith, start-of (c .before .before .before .before) .pre .0 .loggers-most)))
 
 check-passage-requires : tie.Need-check-passage-requires
 check-passage-requires c κs =
-    let a = start-of (c .before .before .before .before .before .before .before) .args in
-    (omega (arith, length-take (a .read .«kind_count») (a .kinds .now)), omega (arith, length-take (a .read .«logger_count») (a .loggers .now)))
+    let fine = c .before .before .before .before .before .before .before in
+    let start = start-of fine in
+    let a = start .args in
+    let held = start .pre .0 in
+    let rising = held .rising (eqb-true _ _ (plan-fine fine)) in
+    (omega (arith, length-take (a .read .«kind_count») (a .kinds .now), held .kinds-most), omega (arith, length-take (a .read .«logger_count») (a .loggers .now), held .loggers-most), rising .0, rising .1)
 
 is-none-requires-2 : tie.Need-is-none-requires-2
 is-none-requires-2 c κs = search needs
@@ -80,12 +85,13 @@ returns-2 c =
     ∙ ap (λ n. turnedBack n (q .check-passage .result .place)) (sym (c .before .number2 .ensures)))
     (c .turned-back2 .ensures _)
 
-run-events-requires : tie.Need-run-events-requires
-run-events-requires c κs =
-    let e = c .before .before .before .before in
+run-in-requires : tie.Need-run-in-requires
+run-in-requires c κs =
+    let e = c .before .before .before .before .before .before .before in
     let q = e .before .before in
-    let a = answer-at (start-of (q .before .before .before .before .before .before .before .before)) in
-    noted-themselves _ _ _ _ _ (q .check-passage .ensures (a .plan) refl refl .1 (eqb-true _ _ (passage-fine e)))
+    let start = start-of (q .before .before .before .before .before .before .before .before) in
+    let a = answer-at start in
+    (start .pre .1, start .pre .2, start .pre .3, noted-themselves _ _ _ _ _ (q .check-passage .ensures (a .plan) refl refl .1 (eqb-true _ _ (passage-fine e))))
 
 ended-requires : tie.Need-ended-requires
 ended-requires c κs = search needs
@@ -93,17 +99,26 @@ ended-requires c κs = search needs
 same-length : tie.Need-same-length
 same-length c = search needs
 
+same-length-2 : tie.Need-same-length-2
+same-length-2 c = search needs
+
+same-length-3 : tie.Need-same-length-3
+same-length-3 c = search needs
+
+same-length-4 : tie.Need-same-length-4
+same-length-4 c = search needs
+
 returns-3 : tie.Need-returns-3
 returns-3 c =
-    let run = c .before .before .before in
-    let e = run .before .before .before .before .before in
+    let run = c .before .before .before .before .before .before in
+    let e = run .before .before .before .before .before .before .before .before in
     let q = e .before .before in
     let fine = q .before .before .before .before .before .before .before .before in
     let a = answer-at (start-of fine) in
     let checked = q .check-passage .ensures (a .plan) refl refl in
     answers-same _ _ _ _ _
     (both-accepted _ _ a (plan-fine fine) (q .check-passage .result) (checked .0) (passage-fine e))
-    (c .ended .ensures _ _ _ (ran-noted _ _ _ _ _ (checked .1 (eqb-true _ _ (passage-fine e))) (a .plan) _ _ _ (run .run-events .ensures (a .plan) refl refl refl)))
+    (c .ended .ensures _ _ _ (ran-noted _ _ _ _ _ (checked .1 (eqb-true _ _ (passage-fine e))) (a .plan) _ _ _ (run .run-in .ensures (a .plan) refl refl refl)))
 
 pub work-under-spec : {M : Type 1} → statement M
 work-under-spec =
@@ -120,7 +135,10 @@ work-under-spec =
     number-requires-2
     turned-back-requires-2
     returns-2
-    run-events-requires
+    run-in-requires
     ended-requires
     same-length
+    same-length-2
+    same-length-3
+    same-length-4
     returns-3)

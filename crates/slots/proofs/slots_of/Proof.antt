@@ -11,10 +11,10 @@ use Rattle.slots.proofs.slots_of.Statement.{statement}
 use Rattle.slots.proofs.slots_of.Tie as tie
 
 abbrev Inv-loop : tie.InvT-loop
-Inv-loop nodes n side slots₀ k₀ slots k = (k ≤ n) × (length slots ≡ 16) × Slots side k nodes slots
+Inv-loop nodes n side slots₀ places k₀ slots k = (k ≤ n) × (length slots ≡ 16) × Slots side k nodes slots
 
 abbrev μ-loop : tie.MeasureT-loop
-μ-loop nodes n side slots₀ k₀ slots k = n - k
+μ-loop nodes n side slots₀ places k₀ slots k = n - k
 
 loop-holds : tie.Need-loop-holds Inv-loop μ-loop
 loop-holds c = (search needs, search needs, λ j h. absurd (omega arith))
@@ -28,8 +28,8 @@ index-1-slot-of c = search needs
 slot-of-requires : tie.Need-slot-of-requires Inv-loop μ-loop
 slot-of-requires c κs = search needs
 
-array-write-slots : tie.Need-array-write-slots Inv-loop μ-loop
-array-write-slots c = search needs
+element-write-slots : tie.Need-element-write-slots Inv-loop μ-loop
+element-write-slots c = search needs
 
 add-k : tie.Need-add-k Inv-loop μ-loop
 add-k c = search needs
@@ -41,7 +41,7 @@ loop-again : tie.Need-loop-again Inv-loop μ-loop
 loop-again c =
     let a = c .before .before .before in
     let s = a .loop in
-    let args = a .before .args in
+    let args = a .before .before .before .args in
     let slot : c .slot-of .result ≡ slotAt (s .k) (getD (getD (args .nodes .now) (s .k) []) (args .side) 0) = c .slot-of .ensures in
     (search needs, length-set (s .slots) (s .k) _ ∙ s .inv .1, filled-next _ (s .slots) (s .k) _ (search needs) slot (s .inv .2))
 
@@ -58,7 +58,7 @@ slots-of-spec =
     mul-slot-of
     index-1-slot-of
     slot-of-requires
-    array-write-slots
+    element-write-slots
     add-k
     loop-less
     loop-again

@@ -20,7 +20,7 @@ in-50 : (t : tie.In-loop Inv-loop μ-loop) → (getD (t .before .before .args .l
 in-50 t = t .before .before .pre .1 (t .before .loop .k) (t .loop-test .taken)
 
 loop-holds : tie.Need-loop-holds Inv-loop μ-loop
-loop-holds c = (search needs, search needs, takers-start (c .args .lefts .now) (c .args .rights .now))
+loop-holds c = (search needs, search needs, rw (c .pre .2) (takers-start (c .args .lefts .now) (c .args .rights .now)))
 
 element-copy-out-a : tie.Need-element-copy-out-a Inv-loop μ-loop
 element-copy-out-a c = search needs
@@ -43,26 +43,26 @@ shl-node c = search needs
 mul-nodes : tie.Need-mul-nodes Inv-loop μ-loop
 mul-nodes c = omega (arith, in-50 (c .before .before))
 
-array-read-nodes : tie.Need-array-read-nodes Inv-loop μ-loop
-array-read-nodes c = omega (arith, in-50 (c .before .before))
+element-copy-out-nodes : tie.Need-element-copy-out-nodes Inv-loop μ-loop
+element-copy-out-nodes c = omega (arith, in-50 (c .before .before))
 
 mul-nodes-2 : tie.Need-mul-nodes-2 Inv-loop μ-loop
-mul-nodes-2 c = omega (arith, in-50 (c .before .before))
+mul-nodes-2 c = omega (arith, in-50 (c .before .before .before))
 
-array-write-nodes : tie.Need-array-write-nodes Inv-loop μ-loop
-array-write-nodes c = omega (arith, in-50 (c .before .before))
+element-write-nodes : tie.Need-element-write-nodes Inv-loop μ-loop
+element-write-nodes c = omega (arith, in-50 (c .before .before .before))
 
 mul-nodes-3 : tie.Need-mul-nodes-3 Inv-loop μ-loop
-mul-nodes-3 c = omega (arith, in-50 (c .before .before))
+mul-nodes-3 c = omega (arith, in-50 (c .before .before .before))
 
-array-read-nodes-2 : tie.Need-array-read-nodes-2 Inv-loop μ-loop
-array-read-nodes-2 c = omega (arith, in-50 (c .before .before))
+element-copy-out-nodes-2 : tie.Need-element-copy-out-nodes-2 Inv-loop μ-loop
+element-copy-out-nodes-2 c = omega (arith, in-50 (c .before .before .before))
 
 mul-nodes-4 : tie.Need-mul-nodes-4 Inv-loop μ-loop
-mul-nodes-4 c = omega (arith, in-50 (c .before .before))
+mul-nodes-4 c = omega (arith, in-50 (c .before .before .before .before))
 
-array-write-nodes-2 : tie.Need-array-write-nodes-2 Inv-loop μ-loop
-array-write-nodes-2 c = omega (arith, in-50 (c .before .before))
+element-write-nodes-2 : tie.Need-element-write-nodes-2 Inv-loop μ-loop
+element-write-nodes-2 c = omega (arith, in-50 (c .before .before .before .before))
 
 add-k : tie.Need-add-k Inv-loop μ-loop
 add-k c = search needs
@@ -72,7 +72,7 @@ loop-less c = search needs
 
 loop-again : tie.Need-loop-again Inv-loop μ-loop
 loop-again c =
-    let t = c .before .before in
+    let t = c .before .before .before .before in
     let a = t .before in
     let s = a .loop in
     let args = a .before .args in
@@ -99,13 +99,13 @@ takers-spec =
     cast-node
     shl-node
     mul-nodes
-    array-read-nodes
+    element-copy-out-nodes
     mul-nodes-2
-    array-write-nodes
+    element-write-nodes
     mul-nodes-3
-    array-read-nodes-2
+    element-copy-out-nodes-2
     mul-nodes-4
-    array-write-nodes-2
+    element-write-nodes-2
     add-k
     loop-less
     loop-again

@@ -40,7 +40,7 @@ use Rattle.readings.proofs.Theorems.{finding-within}
 use Rattle.progress.specs.Progress.{numbersByPlace, stampOf}
 use Rattle.latest_stamps.specs.Written.{Shown}
 use Rattle.latest_stamps.proofs.Theorems.{accepted-placeable, latest-in, latest-of}
-use Rattle.gateway.specs.Latest.{ExactFinding, IsLatest, entryStamp, isBefore, stampsFrom}
+use Rattle.working.specs.Latest.{ExactFinding, IsLatest, entryStamp, isBefore, stampsFrom}
 
 -- ---- the numbers of the loggers rise with their places
 module _ (loggers : List ℕ) (ok : NumbersOk 8 loggers) where

@@ -38,10 +38,10 @@ use Rattle.emissions.specs.Emissions.{numberOf}
 use Rattle.progress.specs.Progress.{numbersByPlace, runOf, stampOf}
 use Rattle.latest_stamps.specs.Written.{Kept}
 use Rattle.latest_stamps.proofs.Theorems.{accepted-exact}
-use Rattle.gateway.specs.declared.Answer.{Answer}
-use Rattle.gateway.specs.Latest.{ExactFinding, LatestExact, WrittenExact, entriesOf, stampsFrom}
-use Rattle.gateway.specs.Working.{Answers, Work, answerNumbers, endOf, turnedBack, worked}
-use Rattle.gateway.proofs.Latest.{shown-exact, stamps-same}
+use Rattle.working.specs.declared.Answer.{Answer}
+use Rattle.working.specs.Latest.{ExactFinding, LatestExact, WrittenExact, entriesOf, stampsFrom}
+use Rattle.working.specs.Working.{Answers, Work, answerNumbers, endOf, turnedBack, worked}
+use Rattle.working.proofs.Latest.{shown-exact, stamps-same}
 
 -- the plan is turned back under 1 to 12, or the passage under 21 to 26, or both are accepted and the passage is worked
 pub data Ends (plan passage : List ℕ) (room : ℕ) : Type 0 where

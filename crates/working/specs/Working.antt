@@ -12,7 +12,7 @@ use Rattle.passages.specs.Events.{passageEvents}
 use Rattle.passages.specs.Reader.{PassageAnswer, readPassage}
 use Rattle.emissions.specs.Emissions.{reached}
 use Rattle.progress.specs.Progress.{Progress, runOf}
-use Rattle.gateway.specs.declared.Answer.{Answer}
+use Rattle.working.specs.declared.Answer.{Answer}
 
 -- how the work ends: a number of the table or 0, its place, the findings and their bytes
 pub record Work : Type 0 where

@@ -1,0 +1,25 @@
+-- What an answer says of how the work ended.
+use mathlib.Core.List.{List}
+use mathlib.Core.Path.{_≡_, sym, subst, _∙_}
+use Prim.Native.Nat.{ℕ}
+use Rattle.sequences.specs.Choice.{pick}
+use Rattle.emissions.specs.Emissions.{reached}
+use Rattle.progress.specs.Progress.{Progress}
+use Rattle.detector.specs.Steps.{Says}
+use Rattle.detector.specs.declared.Run.{Run}
+use Rattle.working.specs.declared.Answer.{Answer}
+use Rattle.working.specs.Working.{Answers, Work, endOf}
+
+-- the answer on a run
+pub run-answers : (p : Progress) (out : List ℕ) (r : Run) (out′ : List ℕ) (place : ℕ) → Says p out r out′ → place ≡ pick (reached (r .limit)) (r .event) 0
+    → Answers (endOf p) out (record { number = r .limit; place = place; findings = r .findings; bytes = r .bytes }) out′
+run-answers p out r out′ place s k = record {
+  number = s .limit;
+  place = k ∙ rw (s .limit, s .event);
+  findings = s .findings;
+  bytes = s .bytes;
+  written = s .written;
+}
+
+pub answers-same : (v w : Work) (out : List ℕ) (r : Answer) (out′ : List ℕ) → v ≡ w → Answers w out r out′ → Answers v out r out′
+answers-same v w out r out′ e a = subst (λ (x : Work). Answers x out r out′) (sym e) a
