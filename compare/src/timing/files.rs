@@ -3,7 +3,7 @@
 use super::shapes::{worked_files, Files, Kind};
 use super::{best_times, Row, Task};
 use crate::files::{FileCase, OUTPUT};
-use crate::implementations::{Implementation, LIBRARY, REFERENCE, TUNED};
+use crate::implementations::{Implementation, ALONE, LIBRARY, REFERENCE, TUNED};
 use std::hint::black_box;
 
 pub fn time_files(kind: Kind) -> Vec<Row> {
@@ -17,18 +17,27 @@ fn time_size(kind: Kind, files: &[Files], events: usize, nodes: usize) -> Row {
     let whole = parts(events, nodes);
     let half_of_events = parts(events / 2, nodes);
     let half_of_nodes = parts(events, (nodes / 2).max(1));
-    let [library, reference, tuned] = [LIBRARY, REFERENCE, TUNED].map(working);
-    let tasks = [
-        Task { call: &library, cases: &whole },
-        Task { call: &reference, cases: &whole },
-        Task { call: &tuned, cases: &whole },
-        Task { call: &library, cases: &half_of_events },
-        Task { call: &library, cases: &half_of_nodes },
-    ];
-    let [library, reference, tuned, events_half, nodes_half] = best_times(tasks, &mut [0; OUTPUT]);
+    let [library, alone, reference, tuned] = [LIBRARY, ALONE, REFERENCE, TUNED].map(working);
+    let output = &mut [0; OUTPUT];
+    let whole_times = best_times(
+        [
+            Task { call: &library, cases: &whole },
+            Task { call: &reference, cases: &whole },
+            Task { call: &alone, cases: &whole },
+            Task { call: &tuned, cases: &whole },
+        ],
+        output,
+    );
+    // Apart from those, so that the halves come between no two turns of the whole.
+    let half_times = best_times(
+        [Task { call: &library, cases: &half_of_events }, Task { call: &library, cases: &half_of_nodes }],
+        output,
+    );
+    let ([library, reference, alone, tuned], [events_half, nodes_half]) = (whole_times, half_times);
     Row {
         label: format!("work {:<7} {events:>3} events {nodes:>2} nodes", kind.name()),
         library,
+        alone: Some(alone),
         reference,
         tuned,
         by_events: (events > 1).then(|| library / events_half),

@@ -40,7 +40,15 @@ fn time_lists(name: &str, count: usize, call: fn(&Implementation, &Pair), lists:
     ];
     let [library, reference, tuned, half] = best_times(tasks, &mut []);
     let by_events = (count > 1).then(|| library / half);
-    Row { label: format!("{name:<12} {count:>3} entries"), library, reference, tuned, by_events, by_nodes: None }
+    Row {
+        label: format!("{name:<12} {count:>3} entries"),
+        library,
+        alone: None,
+        reference,
+        tuned,
+        by_events,
+        by_nodes: None,
+    }
 }
 
 /// Pairs of lists of the given length, each made by repeating what `make` gives.

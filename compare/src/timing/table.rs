@@ -3,7 +3,10 @@
 /// Nanoseconds per call, and how often longer the library takes for the whole than for half.
 pub struct Row {
     pub label: String,
+    /// File working in memory that is lent.
     pub library: f64,
+    /// File working in its own memory.
+    pub alone: Option<f64>,
     pub reference: f64,
     pub tuned: f64,
     /// From half the events or entries.
@@ -13,10 +16,11 @@ pub struct Row {
 }
 
 pub fn print_heading() {
-    println!("ns per call; x2: the library's time for all over its time for half of them");
+    println!("ns per call; library: file working in memory that is lent; alone: in its own, which it clears");
+    println!("x2: the library's time for all over its time for half of them");
     println!(
-        "{:<32}{:>9}{:>10}{:>8}{:>10}{:>8}{:>10}{:>9}",
-        "", "library", "reference", "tuned", "lib/tuned", "lib/ref", "events x2", "nodes x2"
+        "{:<32}{:>9}{:>8}{:>10}{:>8}{:>10}{:>12}{:>8}{:>10}{:>9}",
+        "", "library", "alone", "reference", "tuned", "lib/tuned", "alone/tuned", "lib/ref", "events x2", "nodes x2"
     );
 }
 
@@ -31,17 +35,19 @@ impl Row {
 
     /// With a mark at its end, or without.
     pub fn print(&self, mark: &str) {
-        let growth = |times: Option<f64>| times.map_or("-".to_string(), |times| format!("{times:.2}"));
+        let ratio = |times: Option<f64>| times.map_or("-".to_string(), |times| format!("{times:.2}"));
         println!(
-            "{:<32}{:>9.0}{:>10.0}{:>8.0}{:>10.2}{:>8.2}{:>10}{:>9}{mark}",
+            "{:<32}{:>9.0}{:>8}{:>10.0}{:>8.0}{:>10.2}{:>12}{:>8.2}{:>10}{:>9}{mark}",
             self.label,
             self.library,
+            self.alone.map_or("-".to_string(), |time| format!("{time:.0}")),
             self.reference,
             self.tuned,
             self.of_tuned(),
+            ratio(self.alone.map(|time| time / self.tuned)),
             self.of_reference(),
-            growth(self.by_events),
-            growth(self.by_nodes)
+            ratio(self.by_events),
+            ratio(self.by_nodes)
         );
     }
 }
