@@ -17,28 +17,35 @@ fn time_size(kind: Kind, files: &[Files], events: usize, nodes: usize) -> Row {
     let whole = parts(events, nodes);
     let half_of_events = parts(events / 2, nodes);
     let half_of_nodes = parts(events, (nodes / 2).max(1));
-    let [library, alone, reference, tuned] = [LIBRARY, ALONE, REFERENCE, TUNED].map(working);
+    let [library, library_again, alone, reference, tuned] = [LIBRARY, LIBRARY, ALONE, REFERENCE, TUNED].map(working);
     let output = &mut [0; OUTPUT];
-    let whole_times = best_times(
+    // The reference, whose turns are the longest, comes before each of the others: so all find the machine alike.
+    let between = || Task { call: &reference, cases: &whole };
+    let [library, of_reference, tuned, _, alone, _] = best_times(
         [
             Task { call: &library, cases: &whole },
-            Task { call: &reference, cases: &whole },
-            Task { call: &alone, cases: &whole },
+            between(),
             Task { call: &tuned, cases: &whole },
+            between(),
+            Task { call: &alone, cases: &whole },
+            between(),
         ],
         output,
     );
-    // Apart from those, so that the halves come between no two turns of the whole.
-    let half_times = best_times(
-        [Task { call: &library, cases: &half_of_events }, Task { call: &library, cases: &half_of_nodes }],
+    let [events_half, _, nodes_half, _] = best_times(
+        [
+            Task { call: &library_again, cases: &half_of_events },
+            between(),
+            Task { call: &library_again, cases: &half_of_nodes },
+            between(),
+        ],
         output,
     );
-    let ([library, reference, alone, tuned], [events_half, nodes_half]) = (whole_times, half_times);
     Row {
         label: format!("work {:<7} {events:>3} events {nodes:>2} nodes", kind.name()),
         library,
         alone: Some(alone),
-        reference,
+        reference: of_reference,
         tuned,
         by_events: (events > 1).then(|| library / events_half),
         by_nodes: (nodes > 1).then(|| library / nodes_half),
