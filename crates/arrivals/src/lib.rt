@@ -162,9 +162,16 @@ pub fn meet(
     let first = waiting_lists::first_marked(candidates);
     let row = &list[..];
     if row.len() <= first {
+        // Made anew, as in `emissions::emit_one`.
+        let same = Emit {
+            limit: e.limit,
+            made: e.made,
+            findings: e.findings,
+            at: e.at,
+        };
         return ListTurn {
             waiting: waiting,
-            emit: e,
+            emit: same,
         };
     }
     let choice = contexts::choose(node.context, list, waiting, candidates, ticks, ratio);

@@ -5,7 +5,9 @@ use mathlib.Core.List.{List, [], _∷_, map, zipWith}
 use Prim.Native.Nat.{ℕ, zero, suc, _+_, _≤_, _<_}
 use native.Mathlib.Omega.{arith}
 use borrow.Author.Tests.{eq-eqb, ne-eqb, not-true, not-false}
+use native.Mathlib.Decide.{ℕ-discrete}
 use lib.Bits.{bitAnd, bitXor}
+use lib.Dec.{eqb}
 use lib.ListN.{length, drop, getD, replicate, set, take, length-map}
 use lib.Seq.{getD-set-other, getD-set-same}
 use Rattle.sequences.specs.Choice.{pick}
@@ -68,18 +70,29 @@ module _ (code : ℕ) where
 pub unmarked-off : (b x : Bool) → not b ≡ true → false ≡ (b && x)
 unmarked-off b x e = rw (not-true b e)
 
-module _ (mark : Bool) (code ratio : ℕ) (w c : Occurrence) (on : not mark ≡ false) where
-  pub bars-latest : (r : Bool) → code ≡ 0 → r ≡ isBefore ratio w c → r ≡ (mark && barsOf (takesOf code) ratio w c)
-  unfolding barsOf
-  bars-latest r e f = rw (not-false mark on, code-latest code e) f
+pub marked-on : (b x r : Bool) → not b ≡ false → r ≡ x → r ≡ (b && x)
+marked-on b x r e f = rw (not-false b e) f
 
-  pub bars-earliest : (r : Bool) → (code ≡ 0 → ⊥) → code ≡ 1 → r ≡ isBefore ratio c w → r ≡ (mark && barsOf (takesOf code) ratio w c)
+-- what a rule's code means of two
+module _ (code ratio : ℕ) (w c : Occurrence) where
+  pub bars-latest : code ≡ 0 → barsOf (takesOf code) ratio w c ≡ isBefore ratio w c
   unfolding barsOf
-  bars-earliest r n e f = rw (not-false mark on, code-earliest code n e) f
+  bars-latest e = rw (code-latest code e)
 
-  pub bars-every : (code ≡ 0 → ⊥) → (code ≡ 1 → ⊥) → false ≡ (mark && barsOf (takesOf code) ratio w c)
+  pub bars-earliest : (code ≡ 0 → ⊥) → code ≡ 1 → barsOf (takesOf code) ratio w c ≡ isBefore ratio c w
   unfolding barsOf
-  bars-every n o = rw (not-false mark on, code-every code n o)
+  bars-earliest n e = rw (code-earliest code n e)
+
+  pub bars-every : (code ≡ 0 → ⊥) → (code ≡ 1 → ⊥) → barsOf (takesOf code) ratio w c ≡ false
+  unfolding barsOf
+  bars-every n o = rw (code-every code n o)
+
+-- 1 for yes and 0 for no
+pub decided-is : (d : ℕ) (t : Bool) → d < 2 → (d ≡ 0 → t ≡ false) × (d ≡ 1 → t ≡ true) → eqb d 1 ≡ t
+decided-is d t h e = elim (ℕ-discrete d 1) [
+  | yes q ↦ eq-eqb d 1 q ∙ sym (e .1 q)
+  | no q ↦ ne-eqb d 1 q ∙ sym (e .0 (omega (arith, h, q)))
+]
 
 -- the lowest of one more
 pub lows-turn : (ticks : List ℕ) (list : List (List ℕ)) (lows : List ℕ) (i v : ℕ) → i < length lows → LowestOf ticks (getD list i []) v → Lows ticks list i lows → Lows ticks list (i + 1) (set lows i v)

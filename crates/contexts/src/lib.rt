@@ -2,13 +2,14 @@
 ghost use mathlib.Core.Bool.{_&&_, false, true};
 ghost use mathlib.Core.List.{List, []};
 ghost use mathlib.Core.Path.{_≡_};
-ghost use Prim.Native.Nat.{min, _<_, _≤_};
+ghost use Prim.Native.Nat.{ℕ, min, _<_, _≤_};
 ghost use lib.ListN.{getD, length};
 ghost use Rattle.sequences.specs.Loops.{fold};
 ghost use Rattle.sequences.specs.Marks.{marked};
 ghost use Rattle.sequences.specs.Select.{any};
 ghost use Rattle.occurrences.specs.declared.Occurrence.{Occurrence};
 ghost use Rattle.occurrences.specs.Combination.{combinedOf};
+ghost use Rattle.occurrences.specs.Occurrences.{isBefore};
 ghost use Rattle.occurrences.specs.Packed.{held, occurrenceOf};
 ghost use Rattle.occurrences.specs.Steps.{LowestOf};
 ghost use Rattle.waiting_lists.specs.Marks.{marksOf};
@@ -95,6 +96,25 @@ pub fn row_of(context: u64) -> Row
 
 // ---- candidates
 
+// Whether the first is before the second; beside each its earliest timestamp, which mostly decides it.
+fn comes_before(
+    low: u64,
+    first: u64,
+    a: &[u64; 3],
+    b: &[u64; 3],
+    ticks: &[u64; 256],
+    ratio: u64,
+) -> bool
+    requires { ⌜ LowestOf (now ticks) (now a) low × LowestOf (now ticks) (now b) first ⌝ }
+    ensures { λ r. ⌜ r ≡ isBefore ratio (occurrenceOf (now (ticks .entry)) (now (a .entry))) (occurrenceOf (now (ticks .entry)) (now (b .entry))) ⌝ }
+{
+    let d = occurrences::decided(low, first, ratio);
+    if d < 2 {
+        return d == 1;
+    }
+    occurrences::before(low, a, b, ticks, ratio)
+}
+
 // SEQ: those whose timestamp is before the arrival's.
 pub fn before_arrival(
     list: &[[u64; 3]; 16],
@@ -112,7 +132,7 @@ pub fn before_arrival(
     let mut i: usize = 0;
     while i < n {
         let low = occurrences::lowest(&list[i], ticks);
-        let is = occurrences::before(low, first, &list[i], o, ticks, ratio);
+        let is = comes_before(low, first, &list[i], o, ticks, ratio);
         marks = waiting_lists::with_mark(marks, i, is);
         i = i + 1;
     }
@@ -148,6 +168,41 @@ fn lows_of(list: &[[u64; 3]; 16], n: usize, ticks: &[u64; 256], lows: &mut [u64;
     }
 }
 
+// Whether c keeps w from being taken, place by place; beside each its earliest timestamp.
+fn bars_by_place(
+    rule: u8,
+    low: u64,
+    w: &[u64; 3],
+    other: u64,
+    c: &[u64; 3],
+    ticks: &[u64; 256],
+    ratio: u64,
+) -> bool
+    requires { ⌜ LowestOf (now ticks) (now w) low × LowestOf (now ticks) (now c) other ⌝ }
+    ensures { λ r. ⌜ r ≡ barsOf (takesOf rule) ratio (occurrenceOf (now (ticks .entry)) (now (w .entry))) (occurrenceOf (now (ticks .entry)) (now (c .entry))) ⌝ }
+{
+    if rule == Row::LATEST {
+        occurrences::before(low, w, c, ticks, ratio)
+    } else if rule == Row::EARLIEST {
+        occurrences::before(other, c, w, ticks, ratio)
+    } else {
+        false
+    }
+}
+
+// Whether their earliest timestamps decide it: 1 where c keeps w from being taken, 0 where it does not, 2 where every place has to be looked at.
+fn bars_decided(rule: u8, low: u64, other: u64, ratio: u64) -> u8
+    ensures { λ r. ⌜ ((ticks w c : List ℕ) → LowestOf ticks w low → LowestOf ticks c other → (r ≡ 0 → barsOf (takesOf rule) ratio (occurrenceOf ticks w) (occurrenceOf ticks c) ≡ false) × (r ≡ 1 → barsOf (takesOf rule) ratio (occurrenceOf ticks w) (occurrenceOf ticks c) ≡ true)) ⌝ }
+{
+    if rule == Row::LATEST {
+        occurrences::decided(low, other, ratio)
+    } else if rule == Row::EARLIEST {
+        occurrences::decided(other, low, ratio)
+    } else {
+        0
+    }
+}
+
 // Whether c, where it is a candidate, keeps w from being taken; beside each its earliest timestamp.
 fn bars(
     mark: bool,
@@ -163,14 +218,13 @@ fn bars(
     ensures { λ r. ⌜ r ≡ (mark && barsOf (takesOf rule) ratio (occurrenceOf (now (ticks .entry)) (now (w .entry))) (occurrenceOf (now (ticks .entry)) (now (c .entry)))) ⌝ }
 {
     if !mark {
-        false
-    } else if rule == Row::LATEST {
-        occurrences::before(low, other, w, c, ticks, ratio)
-    } else if rule == Row::EARLIEST {
-        occurrences::before(other, low, c, w, ticks, ratio)
-    } else {
-        false
+        return false;
     }
+    let d = bars_decided(rule, low, other, ratio);
+    if d < 2 {
+        return d == 1;
+    }
+    bars_by_place(rule, low, w, other, c, ticks, ratio)
 }
 
 // Whether some candidate keeps the one at place i from being taken.

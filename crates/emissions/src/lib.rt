@@ -71,7 +71,13 @@ pub fn emit_one(
     let findings = e.findings;
     let at = e.at;
     if is_reached(limit) {
-        return e;
+        // Made anew, number by number: `e` as a whole would be copied in wider moves than it was written in, and those wait.
+        return Emit {
+            limit: limit,
+            made: n,
+            findings: findings,
+            at: at,
+        };
     }
     let row = &made[..];
     if row.len() <= n {

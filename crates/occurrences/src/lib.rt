@@ -2,7 +2,7 @@
 use event_sets::EventSet;
 use timestamps::CompositeTimestamp;
 use timestamps::LocalTick;
-ghost use mathlib.Core.Bool.{true};
+ghost use mathlib.Core.Bool.{true, false};
 ghost use mathlib.Core.List.{List};
 ghost use mathlib.Core.Path.{_≡_};
 ghost use Prim.Native.Nat.{ℕ, _<_, _≤_, _+_, _-_, _%_, _^_, max};
@@ -280,24 +280,25 @@ fn is_far(low: u64, w: u64, ratio: u64) -> bool
     0 < ratio
 }
 
-// Whether the first one's composite timestamp is before the second's. Their lowest timestamps, which the caller has, often decide it.
-pub fn before(
-    low: u64,
-    first: u64,
-    a: &[u64; 3],
-    b: &[u64; 3],
-    ticks: &[u64; 256],
-    ratio: u64,
-) -> bool
-    requires { ⌜ LowestOf (now ticks) (now a) low × LowestOf (now ticks) (now b) first ⌝ }
-    ensures { λ r. ⌜ r ≡ isBefore ratio (occurrenceOf (now (ticks .entry)) (now (a .entry))) (occurrenceOf (now (ticks .entry)) (now (b .entry))) ⌝ }
+// Whether the lowest timestamps of two decide if the first composite timestamp is before the second: 1 where it is, 0 where it is not, 2 where every
+// place has to be looked at.
+pub fn decided(low: u64, first: u64, ratio: u64) -> u8
+    ensures { λ r. ⌜ ((ticks a b : List ℕ) → LowestOf ticks a low → LowestOf ticks b first → (r ≡ 0 → isBefore ratio (occurrenceOf ticks a) (occurrenceOf ticks b) ≡ false) × (r ≡ 1 → isBefore ratio (occurrenceOf ticks a) (occurrenceOf ticks b) ≡ true)) ⌝ }
 {
     if std::num::wrapping_sub_u64(first, 1) < low {
-        return false;
+        return 0;
     }
     if is_far(low, first, ratio) {
-        return true;
+        return 1;
     }
+    2
+}
+
+// Whether the first one's composite timestamp is before the second's, place by place; the lowest timestamp of the first is what the caller has.
+pub fn before(low: u64, a: &[u64; 3], b: &[u64; 3], ticks: &[u64; 256], ratio: u64) -> bool
+    requires { ⌜ LowestOf (now ticks) (now a) low ⌝ }
+    ensures { λ r. ⌜ r ≡ isBefore ratio (occurrenceOf (now (ticks .entry)) (now (a .entry))) (occurrenceOf (now (ticks .entry)) (now (b .entry))) ⌝ }
+{
     let mut k: usize = 0;
     while k < 8 {
         if !later(low, word_at(a, ticks, k), word_at(b, ticks, k), ratio) {

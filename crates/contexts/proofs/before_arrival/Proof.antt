@@ -40,14 +40,14 @@ index-1-lowest c = search needs
 lowest-requires-2 : tie.Need-lowest-requires-2 Inv-loop μ-loop
 lowest-requires-2 c κs = search needs
 
-mul-before : tie.Need-mul-before Inv-loop μ-loop
-mul-before c = search needs
+mul-comes-before : tie.Need-mul-comes-before Inv-loop μ-loop
+mul-comes-before c = search needs
 
-index-1-before : tie.Need-index-1-before Inv-loop μ-loop
-index-1-before c = search needs
+index-1-comes-before : tie.Need-index-1-comes-before Inv-loop μ-loop
+index-1-comes-before c = search needs
 
-before-requires : tie.Need-before-requires Inv-loop μ-loop
-before-requires c κs = (c .before .lowest2 .ensures, c .before .before .before .before .before .before .lowest .ensures)
+comes-before-requires : tie.Need-comes-before-requires Inv-loop μ-loop
+comes-before-requires c κs = (c .before .lowest2 .ensures, c .before .before .before .before .before .before .lowest .ensures)
 
 with-mark-requires : tie.Need-with-mark-requires Inv-loop μ-loop
 with-mark-requires c κs = search needs
@@ -69,7 +69,7 @@ loop-again c =
     let w = s .args .waiting in
     let n : q .count-in .result ≡ length (held ticks r w) = q .count-in .ensures .0 ticks in
     let in-l : b .loop .i < length (held ticks r w) = omega (arith, t .before .before .before .before .loop-test .taken) in
-    (search needs, tested-turn ticks r w (marksOf (b .loop .marks)) (b .loop .i) in-l (search needs) (λ v. isBefore (s .args .ratio) v (occurrenceOf ticks (s .args .o .now))) _ _ (b .loop .inv .1) (t .before2 .ensures) (c .with-mark .ensures))
+    (search needs, tested-turn ticks r w (marksOf (b .loop .marks)) (b .loop .i) in-l (search needs) (λ v. isBefore (s .args .ratio) v (occurrenceOf ticks (s .args .o .now))) _ _ (b .loop .inv .1) (t .comes-before .ensures) (c .with-mark .ensures))
 
 returns : tie.Need-returns Inv-loop μ-loop
 unfolding seqCandidates
@@ -96,9 +96,9 @@ before-arrival-spec =
     mul-lowest
     index-1-lowest
     lowest-requires-2
-    mul-before
-    index-1-before
-    before-requires
+    mul-comes-before
+    index-1-comes-before
+    comes-before-requires
     with-mark-requires
     add-i
     loop-less

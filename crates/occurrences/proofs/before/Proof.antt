@@ -1,4 +1,4 @@
--- The lowest two decide; else each word of the second at a place before k is later than one of the first.
+-- Each word of the second at a place before k is later than one of the first.
 use mathlib.Core.Bool.{true}
 use mathlib.Core.Path.{_≡_, sym, ap₂, _∙_}
 use Prim.Native.Nat.{ℕ, _≤_, _<_, _-_}
@@ -6,34 +6,17 @@ use native.Mathlib.Omega.{arith}
 use borrow.Author.Tests.{not-false, not-true}
 use Rattle.occurrences.specs.Packed.{wordsOf}
 use Rattle.occurrences.specs.Steps.{laterOf}
-use Rattle.occurrences.proofs.Befores.{all-later, first-clear, first-not-later, later-turn, one-not-later}
+use Rattle.occurrences.proofs.Befores.{all-later, later-turn, one-not-later}
 use Rattle.occurrences.proofs.Words.{wordAt}
 use borrow.Author.Needs.{needs}
 use Rattle.occurrences.proofs.before.Statement.{statement}
 use Rattle.occurrences.proofs.before.Tie as tie
 
 abbrev Inv-loop : tie.InvT-loop
-Inv-loop low first a b ticks ratio k₀ k = (k ≤ 8) × ((j : ℕ) → j < k → laterOf ratio low (wordAt (wordsOf ticks a) j) (wordAt (wordsOf ticks b) j) ≡ true)
+Inv-loop low a b ticks ratio k₀ k = (k ≤ 8) × ((j : ℕ) → j < k → laterOf ratio low (wordAt (wordsOf ticks a) j) (wordAt (wordsOf ticks b) j) ≡ true)
 
 abbrev μ-loop : tie.MeasureT-loop
-μ-loop low first a b ticks ratio k₀ k = 8 - k
-
-wrapping-sub-u64-requires : tie.Need-wrapping-sub-u64-requires Inv-loop μ-loop
-wrapping-sub-u64-requires c κs = search needs
-
-returns : tie.Need-returns Inv-loop μ-loop
-returns c =
-    let t = c .before in
-    let s = t .before in
-    sym (first-not-later _ _ _ _ (s .pre .0) _ (s .pre .1) (omega (arith, t .wrapping-sub-u64 .ensures)) (omega (arith, t .wrapping-sub-u64 .ensures)))
-
-is-far-requires : tie.Need-is-far-requires Inv-loop μ-loop
-is-far-requires c κs = search needs
-
-returns-2 : tie.Need-returns-2 Inv-loop μ-loop
-returns-2 c =
-    let s = c .before .before .before .before in
-    sym (first-clear _ _ _ _ (s .pre .0) _ (s .pre .1) (c .before .is-far .ensures (c .if2 .taken)))
+μ-loop low a b ticks ratio k₀ k = 8 - k
 
 loop-holds : tie.Need-loop-holds Inv-loop μ-loop
 loop-holds c = (search needs, λ j l. absurd (omega (arith, l)))
@@ -47,16 +30,16 @@ word-at-requires-2 c κs = search needs
 later-requires : tie.Need-later-requires Inv-loop μ-loop
 later-requires c κs = search needs
 
-returns-3 : tie.Need-returns-3 Inv-loop μ-loop
-returns-3 c =
+returns : tie.Need-returns Inv-loop μ-loop
+returns c =
     let at = c .before .before .before .before .before in
-    let s = at .before .before .before .before .before in
+    let s = at .before in
     let x = wordsOf (s .args .ticks .now) (s .args .a .now) in
     let y = wordsOf (s .args .ticks .now) (s .args .b .now) in
     let words : c .before .later .result ≡ laterOf (s .args .ratio) (s .args .low) (wordAt x (at .loop .k)) (wordAt y (at .loop .k)) =
     c .before .later .ensures ∙ ap₂ (laterOf (s .args .ratio) (s .args .low)) (c .before .before .before .word-at .ensures) (c .before .before .word-at2 .ensures)
     in
-    sym (one-not-later _ x y _ (s .pre .0) _ (c .before .before .before .before .loop-test .taken) (sym words ∙ not-true _ (c .if3 .taken)))
+    sym (one-not-later _ x y _ (s .pre) _ (c .before .before .before .before .loop-test .taken) (sym words ∙ not-true _ (c .if1 .taken)))
 
 add-k : tie.Need-add-k Inv-loop μ-loop
 add-k c = search needs
@@ -67,18 +50,18 @@ loop-less c = search needs
 loop-again : tie.Need-loop-again Inv-loop μ-loop
 loop-again c =
     let at = c .before .before .before .before .before in
-    let s = at .before .before .before .before .before in
+    let s = at .before in
     let x = wordsOf (s .args .ticks .now) (s .args .a .now) in
     let y = wordsOf (s .args .ticks .now) (s .args .b .now) in
     let words : c .before .later .result ≡ laterOf (s .args .ratio) (s .args .low) (wordAt x (at .loop .k)) (wordAt y (at .loop .k)) =
     c .before .later .ensures ∙ ap₂ (laterOf (s .args .ratio) (s .args .low)) (c .before .before .before .word-at .ensures) (c .before .before .word-at2 .ensures)
     in
-    (search needs, later-turn _ _ x y _ (sym words ∙ not-false _ (c .if3 .left)) (at .loop .inv .1))
+    (search needs, later-turn _ _ x y _ (sym words ∙ not-false _ (c .if1 .left)) (at .loop .inv .1))
 
-returns-4 : tie.Need-returns-4 Inv-loop μ-loop
-returns-4 c =
-    let s = c .before .before .before .before .before .before in
-    sym (all-later _ _ _ _ (s .pre .0) (λ j l. c .before .loop .inv .1 j (omega (arith, l, c .loop-test .left))))
+returns-2 : tie.Need-returns-2 Inv-loop μ-loop
+returns-2 c =
+    let s = c .before .before in
+    sym (all-later _ _ _ _ (s .pre) (λ j l. c .before .loop .inv .1 j (omega (arith, l, c .loop-test .left))))
 
 pub before-spec : {M : Type 1} → statement M
 before-spec =
@@ -86,16 +69,12 @@ before-spec =
     (tie.spec
     Inv-loop
     μ-loop
-    wrapping-sub-u64-requires
-    returns
-    is-far-requires
-    returns-2
     loop-holds
     word-at-requires
     word-at-requires-2
     later-requires
-    returns-3
+    returns
     add-k
     loop-less
     loop-again
-    returns-4)
+    returns-2)
