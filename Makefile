@@ -33,7 +33,8 @@ help:
 	@echo '                     the instructions of the library by function, counted by callgrind'
 	@echo 'make examples        writes the files of examples/ anew'
 	@echo 'make mutants CRATE=NAME SHARE=K'
-	@echo '                     small wrong edits of the code, which the checker must refuse: every K-th, of one crate or of all'
+	@echo '                     small wrong edits of the code, which the checker must refuse: every K-th, of one crate or of all;'
+	@echo '                     SHARE=eachK: K of each function'
 
 test:
 	.ci/run
