@@ -352,7 +352,7 @@ struct rathunxa_answer rathunxa_work_in(const uint8_t *plan, size_t plan_len, co
                                         uint64_t made[17][8][3]);
 
 /** The same as rathunxa_work(), in memory that is lent: nothing is cleared
- *  first, which is most of the time of a short passage.
+ *  first, which is about half of the time of a passage of one event.
  *
  *  @param[in,out] memory  working memory; need not be set, and must not be NULL
  */
