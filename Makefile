@@ -57,11 +57,11 @@ fuzz: $(LIBRARY)
 bench: $(LIBRARY)
 	$(CARGO_RUN) --bin bench -- $(STRICT)
 
-# Counts inside rathunxa_work_in alone, in the functions as they were compiled: the rest is making the files.
+# Counts inside rathunxa_work alone, in the functions as they were compiled: the rest is making the files.
 profile: $(LIBRARY)
 	CARGO_TARGET_DIR=target/cargo cargo build $(CARGO_FLAGS) --bin profile
 	mkdir -p $(dir $(PROFILE))
-	valgrind --quiet --tool=callgrind --toggle-collect=rathunxa_work_in --callgrind-out-file=$(PROFILE) \
+	valgrind --quiet --tool=callgrind --toggle-collect=rathunxa_work --callgrind-out-file=$(PROFILE) \
 	  target/cargo/release/profile $(EVENTS) $(NODES) $(KIND) $(REPEATS)
 	@callgrind_annotate --auto=no --threshold=99.99 $(PROFILE) | sed -n '/PROGRAM TOTALS/p; /file:function/,$$p' | sed 's, \[/.*\],,' | head -n 25
 

@@ -1,5 +1,4 @@
-/* File working from C: D1 to D4, the limits, each number 1 to 26 with its place, and which bytes of the output change, in
-   the library's own memory and in memory that is lent.
+/* File working from C: D1 to D4, the limits, each number 1 to 26 with its place, and which bytes of the output change.
    All that is expected is written by hand from document 01. Plan P: ratio 10, loggers 1 and 2, kinds 7 and 9, one node
    "kind 7, then kind 9". */
 #include "rathunxa.h"
@@ -8,7 +7,6 @@
 #include <string.h>
 
 _Static_assert(sizeof(struct rathunxa_answer) == 32, "four numbers");
-_Static_assert(sizeof(struct rathunxa_memory) == 8 * (256 + 2 * 16 * 16 * 3 + 17 * 8 * 3), "no padding between parts");
 
 #define GUARD 64
 #define PAINT 0xee
@@ -83,32 +81,15 @@ static int holds_only(const uint8_t *output, size_t size, struct bytes findings)
     return 1;
 }
 
-/* Where a call works: its own memory; lent memory that was never set, so that a memory checker sees whether it is looked
-   at; lent memory that was painted. */
-enum where { ALONE, LENT_UNSET, LENT_PAINTED, WHERES };
-
-static struct rathunxa_answer worked(enum where where, const uint8_t *plan, size_t plan_length, const uint8_t *passage,
-                                     size_t passage_length, uint8_t *output, size_t output_length)
-{
-    if (where == ALONE) return rathunxa_work(plan, plan_length, passage, passage_length, output, output_length);
-    struct rathunxa_memory *memory = malloc(sizeof *memory);
-    if (!memory) exit(2);
-    if (where == LENT_PAINTED) memset(memory, 0xff, sizeof *memory);
-    struct rathunxa_answer a =
-        rathunxa_work_with(plan, plan_length, passage, passage_length, output, output_length, memory);
-    free(memory);
-    return a;
-}
-
 /* One call with output_length bytes lent must give the answer and write the findings and nothing else.
    `which` tells the cases of a loop apart. */
-static void gives_in(enum where where, const char *what, size_t which, struct bytes plan, struct bytes passage,
-                     size_t output_length, struct rathunxa_answer wanted, struct bytes findings)
+static void gives(const char *what, size_t which, struct bytes plan, struct bytes passage, size_t output_length,
+                  struct rathunxa_answer wanted, struct bytes findings)
 {
     uint8_t *plan_copy = lent(plan), *passage_copy = lent(passage), *output = room(output_length + GUARD);
     memset(output, PAINT, output_length + GUARD);
     struct rathunxa_answer a =
-        worked(where, plan_copy, plan.length, passage_copy, passage.length, output, output_length);
+        rathunxa_work(plan_copy, plan.length, passage_copy, passage.length, output, output_length);
     expect(a.number == wanted.number && a.place == wanted.place, what, which);
     expect(a.findings == wanted.findings && a.bytes == wanted.bytes, what, which);
     expect(holds_only(output, output_length + GUARD, findings), what, which);
@@ -117,13 +98,6 @@ static void gives_in(enum where where, const char *what, size_t which, struct by
     free(plan_copy);
     free(passage_copy);
     free(output);
-}
-
-static void gives(const char *what, size_t which, struct bytes plan, struct bytes passage, size_t output_length,
-                  struct rathunxa_answer wanted, struct bytes findings)
-{
-    for (int where = ALONE; where < WHERES; where++)
-        gives_in((enum where)where, what, which, plan, passage, output_length, wanted, findings);
 }
 
 static void turns_back(const char *what, size_t which, struct bytes plan, struct bytes passage, uint64_t number,

@@ -88,13 +88,7 @@
  *  - Answers are returned by value.
  *  - A call runs on the caller's stack: rathunxa_work() takes at most
  *    RATHUNXA_STACK bytes of it, the other calls less. It clears up to 18
- *    kilobytes there first. A caller that works many short passages lends
- *    struct rathunxa_memory to rathunxa_work_with() in its stead: that one
- *    clears nothing, and the answer and the output are the same.
- *  - struct rathunxa_memory need not be cleared or set: what it holds before a
- *    call is not looked at, and what it holds afterwards means nothing. It may
- *    be lent again to any call, but to one at a time: one for each thread. It
- *    must overlap neither the files nor the output.
+ *    kilobytes there first.
  *
  *  @section traps Traps
  *
@@ -165,7 +159,7 @@ extern "C" {
 /** The logger place of a blank timestamp; its tick is 0. */
 #define RATHUNXA_BLANK_LOGGER 255
 /** The stack bytes that rathunxa_work() may take. Measured and not proved: on
- *  x86-64 the deepest call took about 21,000. */
+ *  x86-64 the deepest call took about 28,100. */
 #define RATHUNXA_STACK 32768
 /** @} */
 
@@ -276,15 +270,6 @@ struct rathunxa_answer {
     uint64_t bytes;    /**< how many bytes they take; 0 with 1 to 26 */
 };
 
-/** Working memory for rathunxa_work_with(), about 18 kilobytes. Its parts are
- *  the library's own: a caller sets and reads none of them. */
-struct rathunxa_memory {
-    uint64_t ticks[256];        /**< the events' ticks */
-    uint64_t lefts[16][16][3];  /**< what waits on each node's left */
-    uint64_t rights[16][16][3]; /**< what waits on each node's right */
-    uint64_t made[17][8][3];    /**< what each node made of an event */
-};
-
 /** A timestamp, or an entry of a list. Only its two fields are read: bytes of
  *  padding between them may hold anything. */
 struct rathunxa_timestamp {
@@ -337,32 +322,6 @@ struct rathunxa_comparison {
  */
 struct rathunxa_answer rathunxa_work(const uint8_t *plan, size_t plan_len, const uint8_t *passage, size_t passage_len,
                                      uint8_t *output, size_t output_len);
-
-/** The same as rathunxa_work(), in memory that is lent part by part; see
- *  rathunxa_work_with(), which lends the parts of a struct rathunxa_memory.
- *
- *  @param[in,out] ticks   256 numbers
- *  @param[in,out] lefts   16 rows of 16 times 3
- *  @param[in,out] rights  16 rows of 16 times 3
- *  @param[in,out] made    17 rows of 8 times 3
- */
-struct rathunxa_answer rathunxa_work_in(const uint8_t *plan, size_t plan_len, const uint8_t *passage,
-                                        size_t passage_len, uint8_t *output, size_t output_len, uint64_t ticks[256],
-                                        uint64_t lefts[16][16][3], uint64_t rights[16][16][3],
-                                        uint64_t made[17][8][3]);
-
-/** The same as rathunxa_work(), in memory that is lent: nothing is cleared
- *  first, which is about half of the time of a passage of one event.
- *
- *  @param[in,out] memory  working memory; need not be set, and must not be NULL
- */
-static inline struct rathunxa_answer rathunxa_work_with(const uint8_t *plan, size_t plan_len, const uint8_t *passage,
-                                                        size_t passage_len, uint8_t *output, size_t output_len,
-                                                        struct rathunxa_memory *memory)
-{
-    return rathunxa_work_in(plan, plan_len, passage, passage_len, output, output_len, memory->ticks, memory->lefts,
-                            memory->rights, memory->made);
-}
 
 /** Joins the timestamps of a list: those that are before no other in it.
  *

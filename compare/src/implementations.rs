@@ -1,4 +1,4 @@
-//! The three implementations of the same calls, the library in memory that is lent to it and in its own.
+//! The three implementations of the same calls.
 
 use crate::interface::{Answer, Comparison, JoinAnswer, Timestamp};
 use crate::{library, reference, tuned};
@@ -11,12 +11,8 @@ pub struct Implementation {
     pub compare: fn(u64, &[Timestamp], &[Timestamp]) -> Comparison,
 }
 
-/// File working in memory that is lent.
 pub const LIBRARY: Implementation =
-    Implementation { name: "library", work: library::work_in, join: library::join, compare: library::compare };
-
-/// File working in its own memory, which it clears.
-pub const ALONE: Implementation = Implementation { name: "alone", work: library::work, ..LIBRARY };
+    Implementation { name: "library", work: library::work, join: library::join, compare: library::compare };
 
 pub const REFERENCE: Implementation =
     Implementation { name: "reference", work: reference::work, join: reference::join, compare: reference::compare };
@@ -24,4 +20,4 @@ pub const REFERENCE: Implementation =
 pub const TUNED: Implementation =
     Implementation { name: "tuned", work: tuned::work, join: tuned::join, compare: tuned::compare };
 
-pub const ALL: [Implementation; 4] = [LIBRARY, ALONE, REFERENCE, TUNED];
+pub const ALL: [Implementation; 3] = [LIBRARY, REFERENCE, TUNED];

@@ -1,7 +1,6 @@
 //! The proved library through its C interface. A slice goes over as a pointer and a count.
 
 use crate::interface::{Answer, Comparison, JoinAnswer, Timestamp};
-use std::mem::MaybeUninit;
 
 mod raw {
     use super::{Answer, Comparison, JoinAnswer, Timestamp};
@@ -14,18 +13,6 @@ mod raw {
             passage_len: usize,
             output: *mut u8,
             output_len: usize,
-        ) -> Answer;
-        pub fn rathunxa_work_in(
-            plan: *const u8,
-            plan_len: usize,
-            passage: *const u8,
-            passage_len: usize,
-            output: *mut u8,
-            output_len: usize,
-            ticks: *mut [u64; 256],
-            lefts: *mut [[[u64; 3]; 16]; 16],
-            rights: *mut [[[u64; 3]; 16]; 16],
-            made: *mut [[[u64; 3]; 8]; 17],
         ) -> Answer;
         pub fn rathunxa_join(ratio: u64, list: *const Timestamp, count: usize) -> JoinAnswer;
         pub fn rathunxa_compare(
@@ -43,37 +30,6 @@ pub fn work(plan: &[u8], passage: &[u8], output: &mut [u8]) -> Answer {
     // Sound: each pointer leads to as many bytes as the length says, `&mut` overlaps neither file, and nothing is kept.
     unsafe {
         raw::rathunxa_work(plan.as_ptr(), plan_len, passage.as_ptr(), passage_len, output.as_mut_ptr(), output_len)
-    }
-}
-
-/// The memory that a caller lends, as in include/rathunxa.h.
-#[repr(C)]
-pub struct Memory {
-    ticks: [u64; 256],
-    lefts: [[[u64; 3]; 16]; 16],
-    rights: [[[u64; 3]; 16]; 16],
-    made: [[[u64; 3]; 8]; 17],
-}
-
-/// In memory that is lent and holds whatever it holds.
-pub fn work_in(plan: &[u8], passage: &[u8], output: &mut [u8]) -> Answer {
-    let (plan_len, passage_len, output_len) = (plan.len(), passage.len(), output.len());
-    let mut lent = MaybeUninit::<Memory>::uninit();
-    let memory = lent.as_mut_ptr();
-    // Sound as above; the memory is as large as the parts say, and the library reads of it only what it wrote.
-    unsafe {
-        raw::rathunxa_work_in(
-            plan.as_ptr(),
-            plan_len,
-            passage.as_ptr(),
-            passage_len,
-            output.as_mut_ptr(),
-            output_len,
-            &raw mut (*memory).ticks,
-            &raw mut (*memory).lefts,
-            &raw mut (*memory).rights,
-            &raw mut (*memory).made,
-        )
     }
 }
 

@@ -6,7 +6,7 @@ use rathunxa_compare::timing::{worked_files, Kind, EVENTS, NODES};
 use std::hint::black_box;
 use std::process::ExitCode;
 
-const USAGE: &str = "usage: profile EVENTS NODES sparse|typical|every REPEATS [library|alone|reference|tuned]";
+const USAGE: &str = "usage: profile EVENTS NODES sparse|typical|every REPEATS [library|reference|tuned]";
 
 struct Wanted {
     cases: Vec<FileCase>,

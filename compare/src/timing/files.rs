@@ -1,9 +1,9 @@
 //! Passages of 1, 8, 32 and 128 events under plans of 1, 4 and 16 nodes.
 
 use super::shapes::{worked_files, Files, Kind};
-use super::{best_times, Row, Task};
+use super::{aims, best_times, Row, Task};
 use crate::files::{FileCase, OUTPUT};
-use crate::implementations::{Implementation, ALONE, LIBRARY, REFERENCE, TUNED};
+use crate::implementations::{Implementation, LIBRARY, REFERENCE, TUNED};
 use std::hint::black_box;
 
 pub fn time_files(kind: Kind) -> Vec<Row> {
@@ -17,19 +17,12 @@ fn time_size(kind: Kind, files: &[Files], events: usize, nodes: usize) -> Row {
     let whole = parts(events, nodes);
     let half_of_events = parts(events / 2, nodes);
     let half_of_nodes = parts(events, (nodes / 2).max(1));
-    let [library, library_again, alone, reference, tuned] = [LIBRARY, LIBRARY, ALONE, REFERENCE, TUNED].map(working);
+    let [library, library_again, reference, tuned] = [LIBRARY, LIBRARY, REFERENCE, TUNED].map(working);
     let output = &mut [0; OUTPUT];
     // The reference, whose turns are the longest, comes before each of the others: so all find the machine alike.
     let between = || Task { call: &reference, cases: &whole };
-    let [library, of_reference, tuned, _, alone, _] = best_times(
-        [
-            Task { call: &library, cases: &whole },
-            between(),
-            Task { call: &tuned, cases: &whole },
-            between(),
-            Task { call: &alone, cases: &whole },
-            between(),
-        ],
+    let [library, of_reference, tuned, _] = best_times(
+        [Task { call: &library, cases: &whole }, between(), Task { call: &tuned, cases: &whole }, between()],
         output,
     );
     let [events_half, _, nodes_half, _] = best_times(
@@ -44,9 +37,9 @@ fn time_size(kind: Kind, files: &[Files], events: usize, nodes: usize) -> Row {
     Row {
         label: format!("work {:<7} {events:>3} events {nodes:>2} nodes", kind.name()),
         library,
-        alone: Some(alone),
         reference: of_reference,
         tuned,
+        aim: aims::of_files(kind, events),
         by_events: (events > 1).then(|| library / events_half),
         by_nodes: (nodes > 1).then(|| library / nodes_half),
     }

@@ -1,5 +1,6 @@
 //! The time of all implementations on the same inputs, in one table.
 
+mod aims;
 mod files;
 mod open_calls;
 mod shapes;

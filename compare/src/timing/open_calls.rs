@@ -1,6 +1,6 @@
 //! Lists of 1, 8 and 128 entries.
 
-use super::{best_times, Row, Task};
+use super::{aims, best_times, Row, Task};
 use crate::generator::{composite, entries, Random};
 use crate::implementations::{Implementation, LIBRARY, REFERENCE, TUNED};
 use crate::interface::Timestamp;
@@ -17,7 +17,7 @@ pub fn time_joins() -> Vec<Row> {
         black_box((of.join)(RATIO, list));
     };
     let lists = |count| pairs(count, |random| entries(random, RATIO, count));
-    COUNTS.map(|count| time_lists("join", count, join, lists)).into()
+    COUNTS.map(|count| Row { aim: aims::of_join(count), ..time_lists("join", count, join, lists) }).into()
 }
 
 pub fn time_comparisons() -> Vec<Row> {
@@ -43,9 +43,9 @@ fn time_lists(name: &str, count: usize, call: fn(&Implementation, &Pair), lists:
     Row {
         label: format!("{name:<12} {count:>3} entries"),
         library,
-        alone: None,
         reference,
         tuned,
+        aim: aims::ANY,
         by_events,
         by_nodes: None,
     }

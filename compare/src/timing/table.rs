@@ -3,12 +3,11 @@
 /// Nanoseconds per call, and how often longer the library takes for the whole than for half.
 pub struct Row {
     pub label: String,
-    /// File working in memory that is lent.
     pub library: f64,
-    /// File working in its own memory.
-    pub alone: Option<f64>,
     pub reference: f64,
     pub tuned: f64,
+    /// The most times tuned that the library may take.
+    pub aim: f64,
     /// From half the events or entries.
     pub by_events: Option<f64>,
     /// From half the nodes.
@@ -16,11 +15,11 @@ pub struct Row {
 }
 
 pub fn print_heading() {
-    println!("ns per call; library: file working in memory that is lent; alone: in its own, which it clears");
+    println!("ns per call; aim: the most that lib/tuned should be");
     println!("x2: the library's time for all over its time for half of them");
     println!(
-        "{:<32}{:>9}{:>8}{:>10}{:>8}{:>10}{:>12}{:>8}{:>10}{:>9}",
-        "", "library", "alone", "reference", "tuned", "lib/tuned", "alone/tuned", "lib/ref", "events x2", "nodes x2"
+        "{:<32}{:>9}{:>10}{:>8}{:>10}{:>6}{:>8}{:>10}{:>9}",
+        "", "library", "reference", "tuned", "lib/tuned", "aim", "lib/ref", "events x2", "nodes x2"
     );
 }
 
@@ -33,21 +32,25 @@ impl Row {
         self.library / self.reference
     }
 
-    /// With a mark at its end, or without.
-    pub fn print(&self, mark: &str) {
+    pub fn is_over(&self) -> bool {
+        self.of_tuned() > self.aim
+    }
+
+    /// With a mark at its end where it is over its aim.
+    pub fn print(&self) {
         let ratio = |times: Option<f64>| times.map_or("-".to_string(), |times| format!("{times:.2}"));
         println!(
-            "{:<32}{:>9.0}{:>8}{:>10.0}{:>8.0}{:>10.2}{:>12}{:>8.2}{:>10}{:>9}{mark}",
+            "{:<32}{:>9.0}{:>10.0}{:>8.0}{:>10.2}{:>6.2}{:>8.2}{:>10}{:>9}{}",
             self.label,
             self.library,
-            self.alone.map_or("-".to_string(), |time| format!("{time:.0}")),
             self.reference,
             self.tuned,
             self.of_tuned(),
-            ratio(self.alone.map(|time| time / self.tuned)),
+            self.aim,
             self.of_reference(),
             ratio(self.by_events),
-            ratio(self.by_nodes)
+            ratio(self.by_nodes),
+            if self.is_over() { " *" } else { "" }
         );
     }
 }

@@ -26,8 +26,8 @@ use Rattle.arrivals.specs.Arrivals.{Met, Setting, Sides, andArrived, fin
 
 -- ---- meeting the candidates
 module _ (s : Setting) (node : Node) (place : ℕ) (l : List Occurrence) (candidates taken : List Bool) (e f : Emitting) (o : Occurrence)
-    (takes : taken ≡ chosen (rowOf (node .context)) (s .ratio) l candidates .taken)
-    (wrote : f ≡ emittedAll (s .room) (s .loggers) place e (madeOf (rowOf (node .context) .finds) (s .ratio) (marked l taken) o)) where
+    (takes : taken ≡ chosen (rowOf (node .context)) (s .clocks) l candidates .taken)
+    (wrote : f ≡ emittedAll (s .room) (s .loggers) place e (madeOf (rowOf (node .context) .finds) (s .clocks) (marked l taken) o)) where
   emit-is : f ≡ emittedAll (s .room) (s .loggers) place e (findingsOf s node l candidates o)
   unfolding findingsOf
   emit-is = rw (← takes) wrote
@@ -36,7 +36,7 @@ module _ (s : Setting) (node : Node) (place : ℕ) (l : List Occurrence) (candid
   unfolding metBy
   met-stopped h = rw (← emit-is, h)
 
-  pub met-goes : (removed : List Bool) (rest : List Occurrence) → reached (f .limit) ≡ false → removed ≡ chosen (rowOf (node .context)) (s .ratio) l candidates .removed → rest ≡ unmarked l removed
+  pub met-goes : (removed : List Bool) (rest : List Occurrence) → reached (f .limit) ≡ false → removed ≡ chosen (rowOf (node .context)) (s .clocks) l candidates .removed → rest ≡ unmarked l removed
       → _≡_ {A = Met} (record { list = rest; emit = f }) (metBy s node place l candidates e o)
   unfolding metBy restOf
   met-goes removed rest h x r = rw (← emit-is, h, r, x)
@@ -50,7 +50,7 @@ pub met-none : (s : Setting) (node : Node) (place : ℕ) (l : List Occurrence) (
     → _≡_ {A = Met} (record { list = l; emit = e }) (metBy s node place l candidates e o)
 unfolding metBy findingsOf restOf emittedAll fold
 met-none s node place l candidates e o h =
-    rw (none-made (rowOf (node .context)) (s .ratio) l candidates o h, none-removed (rowOf (node .context)) (s .ratio) l candidates h, pick-same (reached (e .limit)) l)
+    rw (none-made (rowOf (node .context)) (s .clocks) l candidates o h, none-removed (rowOf (node .context)) (s .clocks) l candidates h, pick-same (reached (e .limit)) l)
 
 -- after a limit nothing happens
 pub met-still : (s : Setting) (node : Node) (place : ℕ) (l : List Occurrence) (candidates : List Bool) (e : Emitting) (o : Occurrence) → reached (e .limit) ≡ true

@@ -8,6 +8,7 @@ use Rattle.sequences.specs.Loops.{fold}
 use Rattle.sequences.specs.Marks.{firstMark, marked}
 use Rattle.sequences.proofs.Loops.{fold-none, fold-next}
 use Rattle.sequences.proofs.Marks.{marked-first, marked-none}
+use Rattle.timestamps.specs.Order.{Clocks}
 use Rattle.occurrences.specs.declared.Occurrence.{Occurrence}
 use Rattle.contexts.specs.Made.{madeOf}
 use Rattle.contexts.specs.Table.{Findings}
@@ -35,6 +36,6 @@ module _ (room : ℕ) (loggers : List ℕ) (place : ℕ) (e : Emitting) (l : Lis
   emits-one r o h k = rw (← k) (h ∙ sym (fold-next (emitted room loggers place) o [] e ∙ fold-none (emitted room loggers place) (emitted room loggers place e o)))
 
 -- what a context makes, by its row
-pub emits-by : (room : ℕ) (loggers : List ℕ) (place : ℕ) (e r : Emitting) (x y : Findings) (ratio : ℕ) (those : List Occurrence) (o : Occurrence) → x ≡ y
-    → r ≡ emittedAll room loggers place e (madeOf y ratio those o) → r ≡ emittedAll room loggers place e (madeOf x ratio those o)
-emits-by room loggers place e r x y ratio those o h k = rw h k
+pub emits-by : (room : ℕ) (loggers : List ℕ) (place : ℕ) (e r : Emitting) (x y : Findings) (clocks : Clocks) (those : List Occurrence) (o : Occurrence) → x ≡ y
+    → r ≡ emittedAll room loggers place e (madeOf y clocks those o) → r ≡ emittedAll room loggers place e (madeOf x clocks those o)
+emits-by room loggers place e r x y clocks those o h k = rw h k

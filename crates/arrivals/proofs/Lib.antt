@@ -1,2 +1,3 @@
 pub mod Arrivals
 pub mod Each
+pub mod Views

@@ -6,6 +6,7 @@ use lib.Dec.{eqb}
 use Rattle.sequences.specs.Choice.{pick}
 use Rattle.sequences.specs.Marks.{marked, unmarked}
 use Rattle.sequences.specs.Select.{any}
+use Rattle.timestamps.specs.Order.{Clocks}
 use Rattle.occurrences.specs.declared.Occurrence.{Occurrence}
 use Rattle.waiting_lists.specs.Waiting.{isFull}
 use Rattle.contexts.specs.Choice.{andCandidates, chosen}
@@ -15,14 +16,14 @@ use Rattle.plans.specs.declared.Node.{Node}
 use Rattle.emissions.specs.declared.Limit.the-variants.{ListFull}
 use Rattle.emissions.specs.Emissions.{Emitting, emittedAll, ended, numberOf, reached}
 
--- what holds for all nodes of a passage: how many output bytes are lent, the plan's ratio, its logger numbers by place
+-- what holds for all nodes of a passage: how many output bytes are lent, the plan's clocks, its logger numbers by place
 pub record Setting : Type 0 where
   pub room : ℕ
-  pub ratio : ℕ
+  pub clocks : Clocks
   pub loggers : List ℕ
 
-abbrev pub settingOf : ℕ → ℕ → List ℕ → Setting
-settingOf room ratio loggers = record { room = room; ratio = ratio; loggers = loggers }
+abbrev pub settingOf : ℕ → Clocks → List ℕ → Setting
+settingOf room clocks loggers = record { room = room; clocks = clocks; loggers = loggers }
 
 -- ---- an arrival meets those that wait, and may wait itself
 
@@ -34,11 +35,11 @@ pub record Met : Type 0 where
 -- the findings of an arrival with these candidates among those that wait, in waiting order
 unfoldable pub findingsOf : Setting → Node → List Occurrence → List Bool → Occurrence → List Occurrence
 findingsOf s node waiting candidates o =
-    madeOf (rowOf (node .context) .finds) (s .ratio) (marked waiting (chosen (rowOf (node .context)) (s .ratio) waiting candidates .taken)) o
+    madeOf (rowOf (node .context) .finds) (s .clocks) (marked waiting (chosen (rowOf (node .context)) (s .clocks) waiting candidates .taken)) o
 
 -- what the removal leaves of those that wait
 unfoldable pub restOf : Setting → Node → List Occurrence → List Bool → List Occurrence
-restOf s node waiting candidates = unmarked waiting (chosen (rowOf (node .context)) (s .ratio) waiting candidates .removed)
+restOf s node waiting candidates = unmarked waiting (chosen (rowOf (node .context)) (s .clocks) waiting candidates .removed)
 
 abbrev pub removal : Setting → Node → List Occurrence → List Bool → Emitting → Met
 removal s node waiting candidates e = record { list = pick (reached (e .limit)) waiting (restOf s node waiting candidates); emit = e }

@@ -2,24 +2,25 @@
 // node makes are rows that are lent.
 use emissions::Emit;
 use emissions::Limit;
+use occurrences::Packed;
 use plans::Node;
 ghost use mathlib.Core.List.{List, map};
 ghost use mathlib.Core.Path.{_≡_};
-ghost use Prim.Native.Nat.{ℕ, min, _≤_};
-ghost use lib.ListN.{getD, length};
+ghost use Prim.Native.Nat.{ℕ, min};
+ghost use lib.ListN.{length};
 ghost use Rattle.sequences.specs.Marks.{marked};
 ghost use Rattle.detections.specs.Writing.{Beyond};
 ghost use Rattle.occurrences.specs.declared.Occurrence.{Occurrence};
 ghost use Rattle.occurrences.specs.Combination.{combinedOf};
-ghost use Rattle.occurrences.specs.Packed.{held, occurrenceOf};
+ghost use Rattle.occurrences.specs.Packed.{Holds, Notes, Stands};
 ghost use Rattle.waiting_lists.specs.Marks.{marksOf};
 ghost use Rattle.contexts.specs.Choice.{andCandidates};
 ghost use Rattle.contexts.specs.Made.{madeOf};
 ghost use Rattle.contexts.specs.Table.{rowOf, together};
 ghost use Rattle.emissions.specs.declared.Limit.the-variants.{ListFull};
-ghost use Rattle.emissions.specs.Emissions.{emitOf, emittedAll, ended, numberOf};
+ghost use Rattle.emissions.specs.Emissions.{Emits, Emitting, emittedAll, ended, numberOf};
 ghost use Rattle.arrivals.specs.Arrivals.{andArrived, joinsBy, metBy, settingOf, waited};
-ghost use Rattle.arrivals.specs.Views.{metOf, sidesOf};
+ghost use Rattle.arrivals.specs.Views.{AtOne, AtTwo, HoldsSides, HoldsMet, Room};
 
 // How many wait in one list after an arrival, and what was made.
 pub struct ListTurn {
@@ -37,19 +38,23 @@ pub struct SidesTurn {
 // One finding for each taken, in waiting order.
 fn emit_each(
     e: Emit,
-    made: &mut [[u64; 3]; 8],
-    list: &[[u64; 3]; 16],
+    made: &mut [Packed; 8],
+    list: &[Packed; 16],
     waiting: usize,
     taken: u64,
-    o: &[u64; 3],
+    o: &Packed,
     place: u64,
-    ratio: u64,
-    ticks: &[u64; 256],
+    ticks: &[u64],
+    globals: &[u64],
     loggers: &[u64; 8],
     out: &mut [u8],
 ) -> Emit
-    requires { ⌜ (getD (now ticks) 0 0 ≡ 0) × (e .at ≤ length (now out)) × (e .findings ≤ e .at) ⌝ }
-    ensures { λ r. ⌜ (emitOf (now (ticks .entry)) r (now (made .exit)) (now (out .exit)) ≡ emittedAll (length (now (out .entry))) (now (loggers .entry)) place (emitOf (now (ticks .entry)) e (now (made .entry)) (now (out .entry))) (map (λ w. combinedOf ratio w (occurrenceOf (now (ticks .entry)) (now (o .entry)))) (marked (held (now (ticks .entry)) (now (list .entry)) waiting) (marksOf taken)))) × Beyond (now (out .entry)) (now (out .exit)) (e .at) (r .findings) (r .at) ⌝ }
+    requires { ⌜ AtOne (now ticks) (now globals) (now list) waiting e (now made) (now out) (now o) × Room e (now out) ⌝ }
+    ensures emits { λ r. ⌜ ((t : Notes (now (ticks .entry)) (now (globals .entry))) (l : List Occurrence) (s : Emitting) (x : Occurrence)
+        → Holds t (now (list .entry)) waiting l → Emits t e (now (made .entry)) (now (out .entry)) s → Stands t (now (o .entry)) x
+        → Emits t r (now (made .exit)) (now (out .exit))
+        (emittedAll (length (now (out .entry))) (now (loggers .entry)) place s (map (λ w. combinedOf (t .clocks) w x) (marked l (marksOf taken))))) ⌝ }
+    ensures beyond { λ r. ⌜ Beyond (now (out .entry)) (now (out .exit)) (e .at) (r .findings) (r .at) ⌝ }
 {
     let n = waiting_lists::count(waiting);
     let row = &list[..];
@@ -57,7 +62,7 @@ fn emit_each(
     let mut rest = taken;
     let mut i = waiting_lists::first_marked(rest);
     while i < n {
-        let c = occurrences::combined(&row[i], o, ticks, ratio);
+        let c = occurrences::combined(&row[i], o, ticks, globals);
         f = emissions::emit_one(f, made, place, &c, ticks, loggers, out);
         // Without its lowest mark.
         rest = rest & (rest - 1);
@@ -69,46 +74,54 @@ fn emit_each(
 // One finding for all taken together, if any is.
 fn emit_together(
     e: Emit,
-    made: &mut [[u64; 3]; 8],
-    list: &[[u64; 3]; 16],
+    made: &mut [Packed; 8],
+    list: &[Packed; 16],
     waiting: usize,
     taken: u64,
-    o: &[u64; 3],
+    o: &Packed,
     place: u64,
-    ratio: u64,
-    ticks: &[u64; 256],
+    ticks: &[u64],
+    globals: &[u64],
     loggers: &[u64; 8],
     out: &mut [u8],
 ) -> Emit
-    requires { ⌜ (getD (now ticks) 0 0 ≡ 0) × (e .at ≤ length (now out)) × (e .findings ≤ e .at) ⌝ }
-    ensures { λ r. ⌜ (emitOf (now (ticks .entry)) r (now (made .exit)) (now (out .exit)) ≡ emittedAll (length (now (out .entry))) (now (loggers .entry)) place (emitOf (now (ticks .entry)) e (now (made .entry)) (now (out .entry))) (madeOf together ratio (marked (held (now (ticks .entry)) (now (list .entry)) waiting) (marksOf taken)) (occurrenceOf (now (ticks .entry)) (now (o .entry))))) × Beyond (now (out .entry)) (now (out .exit)) (e .at) (r .findings) (r .at) ⌝ }
+    requires { ⌜ AtOne (now ticks) (now globals) (now list) waiting e (now made) (now out) (now o) × Room e (now out) ⌝ }
+    ensures emits { λ r. ⌜ ((t : Notes (now (ticks .entry)) (now (globals .entry))) (l : List Occurrence) (s : Emitting) (x : Occurrence)
+        → Holds t (now (list .entry)) waiting l → Emits t e (now (made .entry)) (now (out .entry)) s → Stands t (now (o .entry)) x
+        → Emits t r (now (made .exit)) (now (out .exit))
+        (emittedAll (length (now (out .entry))) (now (loggers .entry)) place s (madeOf together (t .clocks) (marked l (marksOf taken)) x))) ⌝ }
+    ensures beyond { λ r. ⌜ Beyond (now (out .entry)) (now (out .exit)) (e .at) (r .findings) (r .at) ⌝ }
 {
     let first = waiting_lists::first_marked(taken);
     let n = waiting_lists::count_in(list, waiting);
     if n <= first {
         return e;
     }
-    let all = contexts::all_combined(list, waiting, taken, o, ticks, ratio);
+    let all = contexts::all_combined(list, waiting, taken, o, ticks, globals);
     emissions::emit_one(e, made, place, &all, ticks, loggers, out)
 }
 
 // What an arrival makes of those taken, by the context.
 fn emit_made(
     e: Emit,
-    made: &mut [[u64; 3]; 8],
-    list: &[[u64; 3]; 16],
+    made: &mut [Packed; 8],
+    list: &[Packed; 16],
     waiting: usize,
     taken: u64,
-    o: &[u64; 3],
+    o: &Packed,
     context: u64,
     place: u64,
-    ratio: u64,
-    ticks: &[u64; 256],
+    ticks: &[u64],
+    globals: &[u64],
     loggers: &[u64; 8],
     out: &mut [u8],
 ) -> Emit
-    requires { ⌜ (getD (now ticks) 0 0 ≡ 0) × (e .at ≤ length (now out)) × (e .findings ≤ e .at) ⌝ }
-    ensures { λ r. ⌜ (emitOf (now (ticks .entry)) r (now (made .exit)) (now (out .exit)) ≡ emittedAll (length (now (out .entry))) (now (loggers .entry)) place (emitOf (now (ticks .entry)) e (now (made .entry)) (now (out .entry))) (madeOf (rowOf context .finds) ratio (marked (held (now (ticks .entry)) (now (list .entry)) waiting) (marksOf taken)) (occurrenceOf (now (ticks .entry)) (now (o .entry))))) × Beyond (now (out .entry)) (now (out .exit)) (e .at) (r .findings) (r .at) ⌝ }
+    requires { ⌜ AtOne (now ticks) (now globals) (now list) waiting e (now made) (now out) (now o) × Room e (now out) ⌝ }
+    ensures emits { λ r. ⌜ ((t : Notes (now (ticks .entry)) (now (globals .entry))) (l : List Occurrence) (s : Emitting) (x : Occurrence)
+        → Holds t (now (list .entry)) waiting l → Emits t e (now (made .entry)) (now (out .entry)) s → Stands t (now (o .entry)) x
+        → Emits t r (now (made .exit)) (now (out .exit))
+        (emittedAll (length (now (out .entry))) (now (loggers .entry)) place s (madeOf (rowOf context .finds) (t .clocks) (marked l (marksOf taken)) x))) ⌝ }
+    ensures beyond { λ r. ⌜ Beyond (now (out .entry)) (now (out .exit)) (e .at) (r .findings) (r .at) ⌝ }
 {
     if contexts::makes_each(context) {
         emit_each(
@@ -119,8 +132,8 @@ fn emit_made(
             taken,
             o,
             place,
-            ratio,
             ticks,
+            globals,
             loggers,
             out,
         )
@@ -133,8 +146,8 @@ fn emit_made(
             taken,
             o,
             place,
-            ratio,
             ticks,
+            globals,
             loggers,
             out,
         )
@@ -143,21 +156,25 @@ fn emit_made(
 
 // An arrival meets its candidates: findings first, then the removal.
 pub fn meet(
-    list: &mut [[u64; 3]; 16],
+    list: &mut [Packed; 16],
     waiting: usize,
     candidates: u64,
     e: Emit,
-    made: &mut [[u64; 3]; 8],
-    o: &[u64; 3],
+    made: &mut [Packed; 8],
+    o: &Packed,
     node: Node,
     place: u64,
-    ratio: u64,
-    ticks: &[u64; 256],
+    ticks: &[u64],
+    globals: &[u64],
     loggers: &[u64; 8],
     out: &mut [u8],
 ) -> ListTurn
-    requires { ⌜ (getD (now ticks) 0 0 ≡ 0) × (e .at ≤ length (now out)) × (e .findings ≤ e .at) ⌝ }
-    ensures { λ r. ⌜ (metOf (now (ticks .entry)) r (now (list .exit)) (now (made .exit)) (now (out .exit)) ≡ metBy (settingOf (length (now (out .entry))) ratio (now (loggers .entry))) node place (held (now (ticks .entry)) (now (list .entry)) waiting) (marksOf candidates) (emitOf (now (ticks .entry)) e (now (made .entry)) (now (out .entry))) (occurrenceOf (now (ticks .entry)) (now (o .entry)))) × Beyond (now (out .entry)) (now (out .exit)) (e .at) (r .emit .findings) (r .emit .at) ⌝ }
+    requires { ⌜ AtOne (now ticks) (now globals) (now list) waiting e (now made) (now out) (now o) × Room e (now out) ⌝ }
+    ensures meets { λ r. ⌜ ((t : Notes (now (ticks .entry)) (now (globals .entry))) (l : List Occurrence) (s : Emitting) (x : Occurrence)
+        → Holds t (now (list .entry)) waiting l → Emits t e (now (made .entry)) (now (out .entry)) s → Stands t (now (o .entry)) x
+        → HoldsMet t r (now (list .exit)) (now (made .exit)) (now (out .exit))
+        (metBy (settingOf (length (now (out .entry))) (t .clocks) (now (loggers .entry))) node place l (marksOf candidates) s x)) ⌝ }
+    ensures beyond { λ r. ⌜ Beyond (now (out .entry)) (now (out .exit)) (e .at) (r .emit .findings) (r .emit .at) ⌝ }
 {
     let first = waiting_lists::first_marked(candidates);
     let row = &list[..];
@@ -174,7 +191,7 @@ pub fn meet(
             emit: same,
         };
     }
-    let choice = contexts::choose(node.context, list, waiting, candidates, ticks, ratio);
+    let choice = contexts::choose(node.context, list, waiting, candidates, ticks, globals);
     let taken = choice.taken;
     let removed = choice.removed;
     let f = emit_made(
@@ -186,8 +203,8 @@ pub fn meet(
         o,
         node.context,
         place,
-        ratio,
         ticks,
+        globals,
         loggers,
         out,
     );
@@ -207,7 +224,8 @@ pub fn meet(
 
 // 31: the list already holds 16.
 pub fn full(e: Emit) -> Emit
-    ensures { λ r. ⌜ (((ticks : List ℕ) (made : List (List ℕ)) (out : List ℕ) → emitOf ticks r made out ≡ ended (emitOf ticks e made out) (numberOf ListFull)) × (r .at ≡ e .at) × (r .findings ≡ e .findings)) ⌝ }
+    ensures { λ r. ⌜ ((ticks globals : List ℕ) (t : Notes ticks globals) (made : List (List ℕ)) (out : List ℕ) (s : Emitting)
+        → Emits t e made out s → Emits t r made out (ended s (numberOf ListFull))) × (r .at ≡ e .at) × (r .findings ≡ e .findings) ⌝ }
 {
     Emit {
         limit: emissions::number_of(Limit::ListFull),
@@ -218,8 +236,11 @@ pub fn full(e: Emit) -> Emit
 }
 
 // An arrival waits: 31 where the list already holds 16.
-pub fn wait(list: &mut [[u64; 3]; 16], waiting: usize, e: Emit, o: &[u64; 3]) -> ListTurn
-    ensures { λ r. ⌜ (((ticks : List ℕ) (made : List (List ℕ)) (out : List ℕ) → metOf ticks r (now (list .exit)) made out ≡ waited (held ticks (now (list .entry)) waiting) (emitOf ticks e made out) (occurrenceOf ticks (now (o .entry)))) × (r .emit .at ≡ e .at) × (r .emit .findings ≡ e .findings)) ⌝ }
+pub fn wait(list: &mut [Packed; 16], waiting: usize, e: Emit, o: &Packed) -> ListTurn
+    ensures { λ r. ⌜ ((ticks globals : List ℕ) (t : Notes ticks globals) (made : List (List ℕ)) (out : List ℕ)
+        (l : List Occurrence) (s : Emitting) (x : Occurrence)
+        → Holds t (now (list .entry)) waiting l → Emits t e made out s → Stands t (now (o .entry)) x
+        → HoldsMet t r (now (list .exit)) made out (waited l s x)) × (r .emit .at ≡ e .at) × (r .emit .findings ≡ e .findings) ⌝ }
 {
     let limit = e.limit;
     if emissions::is_reached(limit) {
@@ -256,22 +277,27 @@ fn does_join(context: u64, waiting: usize) -> bool
 
 // One side of an AND node.
 pub fn and_arrival(
-    own: &mut [[u64; 3]; 16],
+    own: &mut [Packed; 16],
     here: usize,
-    other: &mut [[u64; 3]; 16],
+    other: &mut [Packed; 16],
     there: usize,
     e: Emit,
-    made: &mut [[u64; 3]; 8],
-    o: &[u64; 3],
+    made: &mut [Packed; 8],
+    o: &Packed,
     node: Node,
     place: u64,
-    ratio: u64,
-    ticks: &[u64; 256],
+    ticks: &[u64],
+    globals: &[u64],
     loggers: &[u64; 8],
     out: &mut [u8],
 ) -> SidesTurn
-    requires { ⌜ (getD (now ticks) 0 0 ≡ 0) × (e .at ≤ length (now out)) × (e .findings ≤ e .at) ⌝ }
-    ensures { λ r. ⌜ (sidesOf (now (ticks .entry)) r (now (own .exit)) (now (other .exit)) (now (made .exit)) (now (out .exit)) ≡ andArrived (settingOf (length (now (out .entry))) ratio (now (loggers .entry))) node place (held (now (ticks .entry)) (now (own .entry)) here) (held (now (ticks .entry)) (now (other .entry)) there) (emitOf (now (ticks .entry)) e (now (made .entry)) (now (out .entry))) (occurrenceOf (now (ticks .entry)) (now (o .entry)))) × Beyond (now (out .entry)) (now (out .exit)) (e .at) (r .emit .findings) (r .emit .at) ⌝ }
+    requires { ⌜ AtTwo (now ticks) (now globals) (now own) here (now other) there e (now made) (now out) (now o) × Room e (now out) ⌝ }
+    ensures faces { λ r. ⌜ ((t : Notes (now (ticks .entry)) (now (globals .entry))) (l k : List Occurrence) (s : Emitting) (x : Occurrence)
+        → Holds t (now (own .entry)) here l → Holds t (now (other .entry)) there k
+        → Emits t e (now (made .entry)) (now (out .entry)) s → Stands t (now (o .entry)) x
+        → HoldsSides t r (now (own .exit)) (now (other .exit)) (now (made .exit)) (now (out .exit))
+        (andArrived (settingOf (length (now (out .entry))) (t .clocks) (now (loggers .entry))) node place l k s x)) ⌝ }
+    ensures beyond { λ r. ⌜ Beyond (now (out .entry)) (now (out .exit)) (e .at) (r .emit .findings) (r .emit .at) ⌝ }
 {
     let n = waiting_lists::count_in(other, there);
     let candidates = contexts::all_waiting(n);
@@ -284,8 +310,8 @@ pub fn and_arrival(
         o,
         node,
         place,
-        ratio,
         ticks,
+        globals,
         loggers,
         out,
     );

@@ -1,50 +1,55 @@
 -- The fold over a list, entry by entry.
-use mathlib.Core.Path.{_≡_, refl, sym, ap, _∙_}
-use mathlib.Core.Bool.{Bool, true, false, _||_}
+use mathlib.Core.Path.{_≡_, refl}
+use mathlib.Core.Bool.{Bool, true, false}
 use mathlib.Core.List.{List, [], _∷_}
-use Prim.Native.Nat.{ℕ, suc, max, _-_}
-use lib.Dec.{leb, ltb}
+use Prim.Native.Nat.{ℕ, suc}
 use borrow.Author.Tests.{eq-eqb, ne-eqb}
+use Rattle.timestamps.specs.declared.GlobalTick.{GlobalTick}
 use Rattle.timestamps.specs.declared.Timestamp.{Timestamp}
-use Rattle.open_calls.specs.declared.Verdict.the-variants.{Accepted, NotConcurrent}
-use Rattle.open_calls.specs.Marks.{globalStart, markAt, markOf, raisedBy}
-use Rattle.comparisons.specs.declared.Span.{Span}
+use Rattle.timestamps.specs.Order.{Clocks, clearlyEarlier, clocksOf, globalOf, quotient}
+use Rattle.open_calls.specs.declared.Verdict.the-variants.{NotConcurrent}
+use Rattle.open_calls.specs.Notes.{localNote, noteAt}
 use Rattle.comparisons.specs.declared.Gathering.{Gathering}
-use Rattle.comparisons.specs.Marks.{clearFrom, lowerOf}
-use Rattle.comparisons.specs.Steps.{firstGathered, foldGather, gatherStep, gathered, gatheringOf, turnedBack}
+use Rattle.comparisons.specs.declared.Span.{Span}
+use Rattle.comparisons.specs.Notes.{gatheringOf, notedDown, widenedBy}
+use Rattle.comparisons.specs.Steps.{firstGathered, foldGather, gatherStep, gathered, judgedAs}
 
-pub gather-none : (ratio i : ℕ) (a : Gathering) → foldGather ratio i a [] ≡ a
+pub gather-none : (clocks : Clocks) (i : ℕ) (a : Gathering) → foldGather clocks i a [] ≡ a
 unfolding foldGather
-gather-none ratio i a = refl
+gather-none clocks i a = refl
 
-pub gather-next : (ratio i : ℕ) (a : Gathering) (s : Timestamp) (l : List Timestamp) → foldGather ratio i a (s ∷ l) ≡ foldGather ratio (suc i) (gatherStep a s i ratio) l
+pub gather-next : (clocks : Clocks) (i : ℕ) (a : Gathering) (s : Timestamp) (l : List Timestamp)
+    → foldGather clocks i a (s ∷ l) ≡ foldGather clocks (suc i) (gatherStep clocks a s i) l
 unfolding foldGather
-gather-next ratio i a s l = refl
+gather-next clocks i a s l = refl
 
 -- ---- a valid entry, as the code tells it
-module _ (a : Span) (marks : List ℕ) (s : Timestamp) (i ratio mark : ℕ) (e : mark ≡ markOf s) where
+pub global-told : (ratio : ℕ) (s : Timestamp) (g : GlobalTick) → g ≡ quotient ratio (s .tick) → g ≡ globalOf (clocksOf ratio) s
+unfolding globalOf
+global-told ratio s g e = e
+
+module _ (clocks : Clocks) (a : Span) (notes : List ℕ) (s : Timestamp) (i : ℕ) where
   abbrev own : ℕ
-  own = markAt marks (s .logger)
+  own = noteAt notes (s .logger)
 
-  pub gathered-same : own ≡ mark → gatheringOf a marks ≡ gathered (gatheringOf a marks) s i ratio
+  pub gathered-same : own ≡ localNote s → gatheringOf a notes ≡ gathered clocks (gatheringOf a notes) s i
   unfolding gathered
-  gathered-same h = rw (eq-eqb own (markOf s) (h ∙ e))
+  gathered-same h = rw (eq-eqb own (localNote s) h)
 
-  pub gathered-first : (b : Gathering) → (own ≡ mark → ⊥) → own ≡ 0 → b ≡ firstGathered (gatheringOf a marks) s i ratio → b ≡ gathered (gatheringOf a marks) s i ratio
-  unfolding gathered
-  gathered-first b d z f = rw (ne-eqb own (markOf s) (λ h. d (h ∙ sym e)), eq-eqb own 0 z) f
+  module _ (d : own ≡ localNote s → ⊥) where
+    pub gathered-first : (b : Gathering) → own ≡ 0 → b ≡ firstGathered clocks (gatheringOf a notes) s i → b ≡ gathered clocks (gatheringOf a notes) s i
+    unfolding gathered
+    gathered-first b z f = rw (ne-eqb own (localNote s) d, eq-eqb own 0 z) f
 
-  pub gathered-other : (b : Span) → (own ≡ mark → ⊥) → (own ≡ 0 → ⊥) → b ≡ turnedBack a NotConcurrent i → gatheringOf b marks ≡ gathered (gatheringOf a marks) s i ratio
-  unfolding gathered
-  gathered-other b d z f = rw (ne-eqb own (markOf s) (λ h. d (h ∙ sym e)), ne-eqb own 0 z) (ap (λ (c : Span). gatheringOf c marks) f)
+    pub gathered-other : (own ≡ 0 → ⊥) → gatheringOf (judgedAs a NotConcurrent i) notes ≡ gathered clocks (gatheringOf a notes) s i
+    unfolding gathered
+    gathered-other z = rw (ne-eqb own (localNote s) d, ne-eqb own 0 z)
 
-  pub first-no : (b : Span) (t : Bool) → t ≡ (ltb (a .from) mark || leb mark (a .till)) → t ≡ true → b ≡ turnedBack a NotConcurrent i → gatheringOf b marks ≡ firstGathered (gatheringOf a marks) s i ratio
-  unfolding firstGathered
-  first-no b t f h g = rw (← e, sym f ∙ h) (ap (λ (c : Span). gatheringOf c marks) g)
+  module _ (g : GlobalTick) (wide : Span) (t : Bool) (e : g ≡ globalOf clocks s) (f : wide ≡ widenedBy a g) (h : t ≡ clearlyEarlier (wide .lowest) (wide .highest)) where
+    pub first-no : t ≡ true → gatheringOf (judgedAs a NotConcurrent i) notes ≡ firstGathered clocks (gatheringOf a notes) s i
+    unfolding firstGathered
+    first-no c = rw (← e, ← f, ← h, c)
 
-  pub first-yes : (t : Bool) (start from till lower higher : ℕ) (next : List ℕ) → t ≡ (ltb (a .from) mark || leb mark (a .till)) → t ≡ false
-      → start ≡ globalStart ratio (s .tick .0) → from ≡ clearFrom ratio start → till ≡ start - ratio → next ≡ raisedBy marks s
-      → lower ≡ lowerOf (a .from) from → higher ≡ max (a .till) till
-      → gatheringOf (record { verdict = Accepted; place = 0; from = lower; till = higher }) next ≡ firstGathered (gatheringOf a marks) s i ratio
-  unfolding firstGathered
-  first-yes t start from till lower higher next f h p q r n l m = rw (← e, sym f ∙ h, l, m, q, r, p, n)
+    pub first-yes : (next : List ℕ) → t ≡ false → next ≡ notedDown notes s g → gatheringOf wide next ≡ firstGathered clocks (gatheringOf a notes) s i
+    unfolding firstGathered
+    first-yes next c n = rw (← e, ← f, ← h, c, n)

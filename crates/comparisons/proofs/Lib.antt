@@ -1,5 +1,5 @@
-pub mod Clear
 pub mod Comparisons
 pub mod Folds
+pub mod GatherWalk
+pub mod Notes
 pub mod Relations
-pub mod Spans

@@ -1,98 +1,177 @@
--- How two lists stand to each other, by their marks.
+-- How two lists stand to each other, by what is noted of them.
 use mathlib.Core.Path.{_≡_, refl, sym, ap, _∙_}
-use mathlib.Core.Bool.{Bool, true, not, _&&_, _||_, or-false}
-use mathlib.Core.List.{List}
-use Prim.Native.Nat.{ℕ, zero, suc, _+_, _-_, _≤_, _<_}
-use native.Mathlib.Decide.{decLt}
+use mathlib.Core.Bool.{Bool, true, false, not, _&&_, _||_, and-true, or-false}
+use mathlib.Core.List.{List, [], _∷_}
+use mathlib.Core.Logic.{⊎-elim}
+use Prim.Native.Nat.{ℕ, _+_, _-_, _≤_, _<_}
+use native.Mathlib.Decide.{ℕ-discrete}
 use native.Mathlib.Omega.{arith}
-use lib.Dec.{lit<, ltb}
-use borrow.Author.Tests.{eq-eqb, le-ltb, lt-ltb, ne-eqb}
+use lib.Dec.{eqb, ltb}
+use borrow.Author.Tests.{eq-eqb, eqb-true, le-ltb, lt-ltb, ne-eqb}
+use Rattle.sequences.specs.Choice.{pick}
 use Rattle.sequences.specs.Loops.{fold}
 use Rattle.sequences.specs.Members.{_∈_}
 use Rattle.sequences.specs.Range.{range}
-use Rattle.sequences.proofs.Loops.{fold-none, fold-next}
-use Rattle.sequences.proofs.Range.{each-done, each-turn, range-none, range-next}
+use Rattle.sequences.specs.Select.{all, any}
+use Rattle.sequences.proofs.Booleans.{or-cases, or-left, or-right, same-test}
+use Rattle.sequences.proofs.Range.{each-done, each-turn, range-in, range-of}
+use Rattle.sequences.proofs.Select.{all-and, all-in, all-not, all-of, all-same}
+use Rattle.timestamps.specs.declared.GlobalTick.{GlobalTick}
 use Rattle.timestamps.specs.declared.LocalTick.{LocalTick}
 use Rattle.timestamps.specs.declared.Relation.{Relation}
 use Rattle.timestamps.specs.declared.Timestamp.{Timestamp}
-use Rattle.timestamps.specs.Comparison.{relationOf}
-use Rattle.timestamps.specs.Composite.{members, stampAt}
-use Rattle.timestamps.specs.Order.{largestTick, validRatio}
-use Rattle.timestamps.specs.Steps.{metIn, relatedAt as meetingAt}
-use Rattle.timestamps.proofs.Composite.{stamp-in}
-use Rattle.timestamps.proofs.Steps.{relatedFrom, related-end, related-start, related-turn}
-use Rattle.open_calls.specs.Marks.{markAt, stampsOf}
-use Rattle.comparisons.specs.Marks.{isEarlier, isLater, relatedAt, relatedMarks}
-use Rattle.open_calls.proofs.Marks.{present-at, tick-at}
-use Rattle.comparisons.proofs.Spans.{Spanned, met-marks}
+use Rattle.timestamps.specs.Comparison.{allBefore, allConcurrent, relationOf, weaklyBefore}
+use Rattle.timestamps.specs.Composite.{loggerPlaces}
+use Rattle.timestamps.specs.Order.{Clocks, before, clearlyEarlier, concurrent, globalOf}
+use Rattle.timestamps.proofs.Composite.{same-stamp}
+use Rattle.open_calls.specs.Notes.{localNote, noteAt}
+use Rattle.comparisons.specs.declared.Gathering.{Gathering}
+use Rattle.comparisons.specs.declared.Meeting.{Meeting}
+use Rattle.comparisons.specs.declared.Span.{Span}
+use Rattle.comparisons.specs.Notes.{Noted, allRelated, meetingOf, noLowest, notedAt, relatedAt, relatedBy, relatedNotes, tickOf}
+use Rattle.comparisons.proofs.Notes.{met-earlier, met-later}
 
 -- ---- as the code tells it
-module _ (from till m w : ℕ) where
-  pub earlier-none : m ≡ 0 → ltb from w ≡ isEarlier from m w
-  unfolding isEarlier
-  earlier-none z = rw (le-ltb 0 m (omega arith)) (sym (or-false (ltb from w)))
+module _ (a : Span) (own : ℕ) (t : LocalTick) (g : GlobalTick) (e l : Bool) (p : e ≡ clearlyEarlier (a .lowest) g) (q : l ≡ clearlyEarlier g (a .highest)) where
+  pub meeting-none : own ≡ 0 → _≡_ {A = Meeting} (record { earlier = e; later = l }) (meetingOf a own t g)
+  unfolding meetingOf
+  meeting-none z = rw (le-ltb 0 own (omega arith), p, q) (λ i. record {
+    earlier = sym (or-false (clearlyEarlier (a .lowest) g)) i;
+    later = sym (or-false (clearlyEarlier g (a .highest))) i;
+  })
 
-  pub earlier-some : (r : Bool) → (m ≡ 0 → ⊥) → r ≡ (ltb from w || ltb m w) → r ≡ isEarlier from m w
-  unfolding isEarlier
-  earlier-some r n e = rw (lt-ltb 0 m (omega (arith, n))) e
+  pub meeting-own : (x y b c : Bool) → (own ≡ 0 → ⊥) → x ≡ ltb (own - 1) (t .0) → b ≡ (e || x) → y ≡ ltb (t .0) (own - 1) → c ≡ (l || y)
+      → _≡_ {A = Meeting} (record { earlier = b; later = c }) (meetingOf a own t g)
+  unfolding meetingOf
+  meeting-own x y b c z f h j k = rw (lt-ltb 0 own (omega (arith, z)), h, k, f, j, p, q)
 
-  pub related-told : (r : Relation) (e l n b c k : Bool) → (w ≡ 0 → ⊥) → e ≡ isEarlier from m w → l ≡ isLater till m w → n ≡ (not e && not l)
-      → b ≡ (r .before && e) → c ≡ (r .concurrent && n) → k ≡ (r .«weakly_before» && not l)
-      → _≡_ {A = Relation} (record { before = b; concurrent = c; «weakly_before» = k }) (relatedAt from till m w r)
-  unfolding relatedAt
-  related-told r e l n b c k z p q f g h i = rw (ne-eqb w 0 z, ← p, ← q, g, h, i, f)
+pub related-told : (a : Span) (own note g : ℕ) (r : Relation) (m : Meeting) (n b c w : Bool) → (note ≡ 0 → ⊥) → m ≡ meetingOf a own (tickOf note) (record { 0 = g })
+    → n ≡ (not (m .earlier) && not (m .later)) → b ≡ (r .before && m .earlier) → c ≡ (r .concurrent && n) → w ≡ (r .«weakly_before» && not (m .later))
+    → _≡_ {A = Relation} (record { before = b; concurrent = c; «weakly_before» = w }) (relatedAt a own note g r)
+unfolding relatedAt
+related-told a own note g r m n b c w z e f h j k = rw (ne-eqb note 0 z, ← e, h, j, k, f)
 
 -- from place k on
-unfoldable pub relatedRest : ℕ → ℕ → List ℕ → List ℕ → Relation → ℕ → Relation
-relatedRest from till a b r k = fold (λ q j. relatedAt from till (markAt a j) (markAt b j) q) (range k (8 - k)) r
+unfoldable pub relatedRest : Span → List ℕ → List ℕ → Relation → ℕ → Relation
+relatedRest a first second r k = fold (λ q j. relatedAt a (noteAt first j) (noteAt second j) (noteAt second (j + 8)) q) (range k (8 - k)) r
 
-module _ (from till : ℕ) (a b : List ℕ) where
-  pub rest-start : relatedRest from till a b (record { before = true; concurrent = true; «weakly_before» = true }) 0 ≡ relatedMarks from till a b
-  unfolding relatedMarks relatedRest
+module _ (a : Span) (first second : List ℕ) where
+  abbrev step : Relation → ℕ → Relation
+  step r j = relatedAt a (noteAt first j) (noteAt second j) (noteAt second (j + 8)) r
+
+  pub rest-start : relatedRest a first second allRelated 0 ≡ relatedNotes a first second
+  unfolding relatedNotes relatedRest
   rest-start = refl
 
-  pub rest-turn : (r q : Relation) (k : ℕ) → k < 8 → q ≡ relatedAt from till (markAt a k) (markAt b k) r → relatedRest from till a b q (k + 1) ≡ relatedRest from till a b r k
+  pub rest-turn : (r q : Relation) (k : ℕ) → k < 8 → q ≡ step r k → relatedRest a first second q (k + 1) ≡ relatedRest a first second r k
   unfolding relatedRest
-  rest-turn r q k l e = rw e (each-turn (λ q j. relatedAt from till (markAt a j) (markAt b j) q) 8 k r l)
+  rest-turn r q k l e = rw e (each-turn step 8 k r l)
 
-  pub rest-end : (r : Relation) (k : ℕ) → 8 ≤ k → r ≡ relatedRest from till a b r k
+  pub rest-end : (r : Relation) (k : ℕ) → 8 ≤ k → r ≡ relatedRest a first second r k
   unfolding relatedRest
-  rest-end r k l = sym (each-done (λ q j. relatedAt from till (markAt a j) (markAt b j) q) 8 k r l)
+  rest-end r k l = sym (each-done step 8 k r l)
+
+-- ---- all the places
+-- where a place is passed over, nothing changes
+abbrev oneMore : Bool → Relation → Meeting → Relation
+oneMore skipped r m = pick skipped r (relatedBy r m)
+
+one-more : (p : Bool) (r : Relation) (m : Meeting) (x y z : Bool) → _≡_ {A = Relation}
+    (record { before = oneMore p r m .before && x; concurrent = oneMore p r m .concurrent && y; «weakly_before» = oneMore p r m .«weakly_before» && z })
+    (record {
+      before = r .before && ((p || m .earlier) && x);
+      concurrent = r .concurrent && ((p || (not (m .earlier) && not (m .later))) && y);
+      «weakly_before» = r .«weakly_before» && ((p || not (m .later)) && z);
+    })
+one-more true r m x y z = refl
+one-more false r m x y z = λ i. record {
+  before = and-thrice (r .before) (m .earlier) x i;
+  concurrent = and-thrice (r .concurrent) (not (m .earlier) && not (m .later)) y i;
+  «weakly_before» = and-thrice (r .«weakly_before») (not (m .later)) z i;
+}
+  where
+    and-thrice : (x y z : Bool) → ((x && y) && z) ≡ (x && (y && z))
+    and-thrice true y z = refl
+    and-thrice false y z = refl
+
+module _ (skip : ℕ → Bool) (m : ℕ → Meeting) where
+  fold-related : (ks : List ℕ) (r : Relation) → fold (λ q k. oneMore (skip k) q (m k)) ks r ≡ record {
+    before = r .before && all (λ k. skip k || m k .earlier) ks;
+    concurrent = r .concurrent && all (λ k. skip k || (not (m k .earlier) && not (m k .later))) ks;
+    «weakly_before» = r .«weakly_before» && all (λ k. skip k || not (m k .later)) ks;
+  }
+  unfolding fold all
+  fold-related [] r = λ i. record {
+    before = sym (and-true (r .before)) i;
+    concurrent = sym (and-true (r .concurrent)) i;
+    «weakly_before» = sym (and-true (r .«weakly_before»)) i;
+  }
+  fold-related (k ∷ ks) r = fold-related ks (oneMore (skip k) r (m k)) ∙ one-more (skip k) r (m k) _ _ _
+
+-- a test over a list, as one over the places
+all-noted : (clocks : Clocks) (l : List Timestamp) (a : Gathering) → Noted clocks l a → (p : Timestamp → Bool)
+    → all p l ≡ all (λ k. eqb (noteAt (a .notes) k) 0 || p (notedAt (a .notes) k)) loggerPlaces
+all-noted clocks l a n p =
+    same-test (all p l) (all test loggerPlaces) (λ h. all-in test loggerPlaces (λ k i. there h k (range-of 0 8 i .1))) (λ h. all-in p l (back h))
+  where
+    test : ℕ → Bool
+    test k = eqb (noteAt (a .notes) k) 0 || p (notedAt (a .notes) k)
+
+    there : all p l ≡ true → (k : ℕ) → k < 8 → test k ≡ true
+    there h k m = elim (ℕ-discrete (noteAt (a .notes) k) 0) [
+      | yes z ↦ or-left (eqb (noteAt (a .notes) k) 0) (p (notedAt (a .notes) k)) (eq-eqb (noteAt (a .notes) k) 0 z)
+      | no z ↦ or-right (eqb (noteAt (a .notes) k) 0) (p (notedAt (a .notes) k)) (all-of p l h (n .held k m (omega (arith, z))))
+    ]
+
+    back : all test loggerPlaces ≡ true → (s : Timestamp) → s ∈ l → p s ≡ true
+    back h s i =
+        let o : noteAt (a .notes) (s .logger) ≡ localNote s = n .each s i .local in
+        ⊎-elim
+        (λ z. absurd (let e : noteAt (a .notes) (s .logger) ≡ 0 = eqb-true (noteAt (a .notes) (s .logger)) 0 z in omega arith))
+        (λ y. ap p (same-stamp s (notedAt (a .notes) (s .logger)) refl (omega arith)) ∙ y)
+        (or-cases (eqb (noteAt (a .notes) (s .logger)) 0) (p (notedAt (a .notes) (s .logger))) (all-of test loggerPlaces h (range-in 0 8 (s .logger) (omega arith) (n .each s i .place))))
 
 -- ---- and as document 01 has it
-module _ (ratio from till : ℕ) (a b : List ℕ) (v : validRatio ratio ≡ true) (p : Spanned ratio from till (members (stampsOf a)))
-    (small : (e : Timestamp) → e ∈ members (stampsOf b) → e .tick .0 ≤ largestTick) where
-  abbrev s : ℕ → Timestamp
-  s k = stampAt (stampsOf b) k
+module _ (clocks : Clocks) (a b : List Timestamp) (first second : Gathering) (n : Noted clocks a first) (o : Noted clocks b second) where
+  abbrev skip : ℕ → Bool
+  skip k = eqb (noteAt (second .notes) k) 0
 
-  -- the mark at a place is that of its timestamp
-  mark-is : (k : ℕ) → 0 < markAt b k → s k .tick .0 + 1 ≡ markAt b k
-  mark-is k l = let e : s k .tick .0 ≡ markAt b k - 1 = ap (λ (x : LocalTick). x .0) (tick-at b k) in omega arith
+  abbrev meeting : ℕ → Meeting
+  meeting k = meetingOf (first .span) (noteAt (first .notes) k) (tickOf (noteAt (second .notes) k)) (record { 0 = noteAt (second .notes) (k + 8) })
 
-  met-is : (k : ℕ) → k < 8 → 0 < markAt b k → metIn ratio (stampsOf a) (s k) ≡ record { earlier = isEarlier from (markAt a k) (markAt b k); later = isLater till (markAt a k) (markAt b k) }
-  met-is k l h =
-      let t : s k .tick .0 ≤ largestTick = small (s k) (stamp-in (stampsOf b) k l (present-at b k ∙ lt-ltb 0 (markAt b k) h)) in
-      let big : largestTick + 1 < 18446744073709551615 = lit< tt in
-      met-marks ratio from till a (s k) v p l (omega arith)
-      ∙ ap (λ w. record { earlier = isEarlier from (markAt a k) w; later = isLater till (markAt a k) w }) (mark-is k h)
+  abbrev stamp : ℕ → Timestamp
+  stamp k = notedAt (second .notes) k
 
-  related-is : (k : ℕ) (r : Relation) → k < 8 → relatedAt from till (markAt a k) (markAt b k) r ≡ meetingAt ratio (stampsOf a) (stampsOf b) r k
-  unfolding relatedAt meetingAt
-  related-is k r l = elim (decLt 0 (markAt b k)) [
-    | yes h ↦ rw (ne-eqb (markAt b k) 0 (λ e. omega (arith, e, h)), present-at b k, lt-ltb 0 (markAt b k) h, met-is k l h)
-    | no h ↦ rw (eq-eqb (markAt b k) 0 (omega arith), present-at b k, le-ltb 0 (markAt b k) (omega arith))
-  ]
+  abbrev hasEarlier : Timestamp → Bool
+  hasEarlier t = any (λ s. before clocks s t) a
 
-  abbrev step : Relation → ℕ → Relation
-  step r k = relatedAt from till (markAt a k) (markAt b k) r
+  abbrev hasLater : Timestamp → Bool
+  hasLater t = any (before clocks t) a
 
-  rest : (n k : ℕ) (r : Relation) → k + n ≡ 8 → fold step (range k n) r ≡ relatedFrom ratio (stampsOf a) (stampsOf b) r k
-  rest zero k r e = rw (range-none k, fold-none step r) (related-end ratio (stampsOf a) (stampsOf b) r k (omega arith))
-  rest (suc n) k r e =
-      rw (range-next k n, fold-next step k (range (k + 1) n) r)
-      (rest n (k + 1) (step r k) (omega arith)
-      ∙ related-turn ratio (stampsOf a) (stampsOf b) r (step r k) k (omega arith) (related-is k r (omega arith)))
+  met : (k : ℕ) → k < 8 → (noteAt (second .notes) k ≡ 0 → ⊥) → (hasEarlier (stamp k) ≡ meeting k .earlier) × (hasLater (stamp k) ≡ meeting k .later)
+  unfolding meetingOf clearlyEarlier
+  met k m z =
+      let i : stamp k ∈ b = o .held k m (omega (arith, z)) in
+      let f : noteAt (second .notes) (k + 8) ≡ globalOf clocks (stamp k) .0 = o .each (stamp k) i .global in
+      let x : globalOf clocks (stamp k) .0 < noLowest = let y = o .each (stamp k) i .high in let w = o .fits in omega (arith, y, w) in
+      (rw f (met-earlier clocks a first n (stamp k) x m), rw f (met-later clocks a first n (stamp k) x m))
 
-  pub relation-is : relatedMarks from till a b ≡ relationOf ratio (members (stampsOf a)) (members (stampsOf b))
-  unfolding relatedMarks
-  relation-is = rest 8 0 (record { before = true; concurrent = true; «weakly_before» = true }) refl ∙ related-start ratio (stampsOf a) (stampsOf b)
+  -- the test p of a timestamp is the test q of how the first list meets it
+  places : (p : Timestamp → Bool) (q : Meeting → Bool) → ((k : ℕ) → k < 8 → (noteAt (second .notes) k ≡ 0 → ⊥) → p (stamp k) ≡ q (meeting k))
+      → all p b ≡ all (λ k. skip k || q (meeting k)) loggerPlaces
+  places p q f = all-noted clocks b second o p ∙ all-same _ _ loggerPlaces (λ k i. elim (ℕ-discrete (noteAt (second .notes) k) 0) [
+    | yes z ↦ rw (eq-eqb (noteAt (second .notes) k) 0 z)
+    | no z ↦ ap (λ x. skip k || x) (f k (range-of 0 8 i .1) z)
+  ])
+
+  apart : (t : Timestamp) → all (λ s. concurrent clocks s t) a ≡ (not (hasEarlier t) && not (hasLater t))
+  unfolding concurrent
+  apart t = all-and (λ s. not (before clocks s t)) (λ s. not (before clocks t s)) a ∙ rw (all-not (λ s. before clocks s t) a, all-not (before clocks t) a)
+
+  pub relation-is : relatedNotes (first .span) (first .notes) (second .notes) ≡ relationOf clocks a b
+  unfolding relatedNotes relatedAt relationOf allBefore allConcurrent weaklyBefore
+  relation-is = fold-related skip meeting loggerPlaces allRelated ∙ (λ i. record {
+    before = sym (places hasEarlier (λ m. m .earlier) (λ k l z. met k l z .0)) i;
+    concurrent = sym (places (λ t. all (λ s. concurrent clocks s t) a) (λ m. not (m .earlier) && not (m .later)) (λ k l z. apart (stamp k) ∙ rw (met k l z .0, met k l z .1))) i;
+    «weakly_before» = sym (sym (all-not hasLater b) ∙ places (λ t. not (hasLater t)) (λ m. not (m .later)) (λ k l z. ap not (met k l z .1))) i;
+  })

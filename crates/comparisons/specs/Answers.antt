@@ -8,16 +8,12 @@ use Rattle.sequences.specs.Select.{any}
 use Rattle.timestamps.specs.declared.Timestamp.{Timestamp}
 use Rattle.timestamps.specs.declared.Relation.{Relation}
 use Rattle.timestamps.specs.Comparison.{relationOf}
-use Rattle.timestamps.specs.Order.{concurrent, valid, validRatio}
+use Rattle.timestamps.specs.Order.{clocksOf, concurrent, valid, validRatio}
+use Rattle.open_calls.specs.declared.Judged.{Judged}
 use Rattle.open_calls.specs.declared.Verdict.{Verdict}
 use Rattle.open_calls.specs.declared.Verdict.the-variants.{Accepted, BadRatio, BadLength, BadEntry, NotConcurrent}
 use Rattle.open_calls.specs.Answers.{numberOf, refusal, validLength}
 use Rattle.comparisons.specs.declared.Comparison.{Comparison}
-
--- a list's verdict, and the place that goes with it
-pub record Judged : Type 0 where
-  pub verdict : Verdict
-  pub place : ℕ
 
 -- turned back: the number, the place, and three times no
 unfoldable pub refusedComparison : Verdict → ℕ → Comparison
@@ -28,7 +24,7 @@ unfoldable pub judged : ℕ → List Timestamp → ℕ → List Timestamp → Ju
 judged ratio earlier place [] = record { verdict = Accepted; place = 0 }
 judged ratio earlier place (s ∷ l) =
     pick (not (valid s)) (record { verdict = BadEntry; place = place })
-    (pick (any (λ e. not (concurrent ratio e s)) earlier) (record { verdict = NotConcurrent; place = place })
+    (pick (any (λ e. not (concurrent (clocksOf ratio) e s)) earlier) (record { verdict = NotConcurrent; place = place })
     (judged ratio (earlier ++ (s ∷ [])) (suc place) l))
 
 -- a list whose first place is `place`: 35, then its entries
@@ -44,4 +40,4 @@ compareAnswer ratio a b =
     pick (not (validRatio ratio)) (refusedComparison BadRatio 0)
     (pick (refusal (judgedList ratio 0 a .verdict)) (refusedComparison (judgedList ratio 0 a .verdict) (judgedList ratio 0 a .place))
     (pick (refusal (judgedList ratio (length a) b .verdict)) (refusedComparison (judgedList ratio (length a) b .verdict) (judgedList ratio (length a) b .place))
-    (related (relationOf ratio a b))))
+    (related (relationOf (clocksOf ratio) a b))))

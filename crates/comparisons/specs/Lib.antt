@@ -1,3 +1,3 @@
 pub mod Answers
-pub mod Marks
+pub mod Notes
 pub mod Steps

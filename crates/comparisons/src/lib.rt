@@ -1,12 +1,14 @@
 // The comparison of two lent lists of timestamps, one of the two calls that stand open to any caller.
 ghost use mathlib.Core.Path.{_≡_};
 ghost use mathlib.Core.Bool.{true, _||_, _&&_};
-ghost use Rattle.timestamps.specs.Order.{valid};
-ghost use Rattle.open_calls.specs.Steps.{joinVerdict, noMarks};
+ghost use Rattle.timestamps.specs.Order.{clearlyEarlier, clocksOf, valid};
+ghost use Rattle.open_calls.specs.Steps.{joinVerdict};
 ghost use Rattle.comparisons.specs.Answers.{compareAnswer, refusedComparison};
-ghost use Rattle.comparisons.specs.Marks.{clearFrom, isEarlier, isLater, lowerOf, relatedAt, relatedMarks};
-ghost use Rattle.comparisons.specs.Steps.{afterFirst, compareDone, compareStart, firstGathered, foldGather, gatherStep, gathered, gatheringOf, placeAfter, turnedBack};
+ghost use Rattle.comparisons.specs.Notes.{gatheringOf, meetingOf, noNotes, notedDown, relatedAt, relatedNotes, widenedBy};
+ghost use Rattle.comparisons.specs.Steps.{afterFirst, compareDone, compareStart, firstGathered, foldGather, gatherStep, gathered, judgedAs, placeAfter};
 use open_calls::Verdict;
+use timestamps::GlobalTick;
+use timestamps::LocalTick;
 use timestamps::Relation;
 use timestamps::Timestamp;
 
@@ -32,19 +34,28 @@ fn refused_comparison(v: Verdict, place: u64) -> Comparison
     }
 }
 
-// How one list has been judged so far, and its two bounds: the marks over `from` are clearly later than some of its timestamps, those up to
-// `till` clearly earlier.
+// What is noted of one list. Of the logger at place k its local tick at k, as the join notes it (open_calls::note_of): the tick plus 1, and 0 where
+// there is none. At k + 8 stands its global tick as it is.
+pub type ListNotes = [u64; 16];
+
+// How one list has been judged so far, and the lowest and the highest of its global ticks: while it has none, the largest number and 0.
 pub struct Span {
     pub verdict: Verdict,
     pub place: u64,
-    pub from: u64,
-    pub till: u64,
+    pub lowest: GlobalTick,
+    pub highest: GlobalTick,
 }
 
-// What has been gathered of one list: its span, and the marks of its timestamps.
+// What has been gathered of one list.
 pub struct Gathering {
     pub span: Span,
-    pub marks: [u64; 8],
+    pub notes: ListNotes,
+}
+
+// Whether a list has a timestamp before another one, and one after it.
+struct Meeting {
+    earlier: bool,
+    later: bool,
 }
 
 // Before a list is walked: turned back at once, or nothing gathered yet.
@@ -59,11 +70,13 @@ fn start_of(v: Verdict, place: u64) -> CompareStart
 {
     let stop = open_calls::is_refusal(v);
     let answer = refused_comparison(v, place);
+    let lowest = GlobalTick(18446744073709551615);
+    let highest = GlobalTick(0);
     let span = Span {
         verdict: Verdict::Accepted,
         place: 0,
-        from: 18446744073709551615,
-        till: 0,
+        lowest: lowest,
+        highest: highest,
     };
     CompareStart {
         stop: stop,
@@ -80,131 +93,136 @@ pub fn compare_start(ratio: u64, n: usize) -> CompareStart
     start_of(v, 0)
 }
 
-// One entry: after a bad one nothing changes. What is handed back is made anew, as in `open_calls::join_step`.
-pub fn gather_step(a: Span, marks: &mut [u64; 8], s: Timestamp, i: usize, ratio: u64) -> Span
-    ensures { λ r. ⌜ gatheringOf r (now (marks .exit)) ≡ gatherStep (gatheringOf a (now (marks .entry))) s i ratio ⌝ }
+// One entry: after a bad one nothing changes. What is handed back is made anew in each case: `a` itself would be copied with its padding, and every
+// entry would wait for that copy.
+pub fn gather_step(a: Span, notes: &mut ListNotes, s: Timestamp, i: usize, ratio: u64) -> Span
+    ensures { λ r. ⌜ gatheringOf r (now (notes .exit)) ≡ gatherStep (clocksOf ratio) (gatheringOf a (now (notes .entry))) s i ⌝ }
 {
     let v = a.verdict;
     if open_calls::is_refusal(v) {
-        Span {
-            verdict: v,
-            place: a.place,
-            from: a.from,
-            till: a.till,
-        }
+        judged_as(a, v, a.place)
     } else if s.valid() {
-        gather(a, marks, s, i, ratio)
+        gather(a, notes, s, i, ratio)
     } else {
-        turned_back(a, Verdict::BadEntry, i)
+        judged_as(a, Verdict::BadEntry, i as u64)
     }
 }
 
-fn turned_back(a: Span, v: Verdict, i: usize) -> Span
-    ensures { λ r. ⌜ r ≡ turnedBack a v i ⌝ }
+// The same global ticks with another verdict.
+fn judged_as(a: Span, v: Verdict, place: u64) -> Span
+    ensures { λ r. ⌜ r ≡ judgedAs a v place ⌝ }
 {
+    let lowest = a.lowest;
+    let highest = a.highest;
     Span {
         verdict: v,
-        place: i as u64,
-        from: a.from,
-        till: a.till,
+        place: place,
+        lowest: lowest,
+        highest: highest,
     }
 }
 
 // A valid entry: one of a logger that is there must be the same again.
-fn gather(a: Span, marks: &mut [u64; 8], s: Timestamp, i: usize, ratio: u64) -> Span
+fn gather(a: Span, notes: &mut ListNotes, s: Timestamp, i: usize, ratio: u64) -> Span
     requires { ⌜ valid s ≡ true ⌝ }
-    ensures { λ r. ⌜ gatheringOf r (now (marks .exit)) ≡ gathered (gatheringOf a (now (marks .entry))) s i ratio ⌝ }
+    ensures { λ r. ⌜ gatheringOf r (now (notes .exit)) ≡ gathered (clocksOf ratio) (gatheringOf a (now (notes .entry))) s i ⌝ }
 {
     let k = s.logger as usize;
-    let old = marks[k];
-    let mark = open_calls::mark_of(s);
-    if old == mark {
+    let old = notes[k];
+    let note = open_calls::note_of(s);
+    if old == note {
         let v = a.verdict;
-        Span {
-            verdict: v,
-            place: a.place,
-            from: a.from,
-            till: a.till,
-        }
+        judged_as(a, v, a.place)
     } else if old == 0 {
-        gather_first(a, marks, s, i, ratio)
+        gather_first(a, notes, s, i, ratio)
     } else {
-        turned_back(a, Verdict::NotConcurrent, i)
+        judged_as(a, Verdict::NotConcurrent, i as u64)
     }
 }
 
-// The first entry of its logger: it must be concurrent with all before it.
-fn gather_first(a: Span, marks: &mut [u64; 8], s: Timestamp, i: usize, ratio: u64) -> Span
+// The first of its logger, with the one division for it. All before it are of other loggers: no global tick may be clearly earlier than another.
+fn gather_first(a: Span, notes: &mut ListNotes, s: Timestamp, i: usize, ratio: u64) -> Span
     requires { ⌜ valid s ≡ true ⌝ }
-    ensures { λ r. ⌜ gatheringOf r (now (marks .exit)) ≡ firstGathered (gatheringOf a (now (marks .entry))) s i ratio ⌝ }
+    ensures { λ r. ⌜ gatheringOf r (now (notes .exit)) ≡ firstGathered (clocksOf ratio) (gatheringOf a (now (notes .entry))) s i ⌝ }
 {
-    let mark = open_calls::mark_of(s);
-    if either(a.from < mark, mark <= a.till) {
-        turned_back(a, Verdict::NotConcurrent, i)
+    let t = s.tick;
+    let g = t.global(ratio);
+    let wider = widened(a, g);
+    if is_torn(wider) {
+        judged_as(a, Verdict::NotConcurrent, i as u64)
     } else {
-        let t = s.tick;
-        let start = open_calls::global_start(t, ratio);
-        let from = clear_from(start, ratio);
-        let till = open_calls::clear_till(start, ratio);
-        open_calls::raise(marks, s);
-        let lower = smaller(a.from, from);
-        let higher = open_calls::larger(a.till, till);
-        Span {
-            verdict: Verdict::Accepted,
-            place: 0,
-            from: lower,
-            till: higher,
-        }
+        note_down(notes, s, g);
+        wider
     }
 }
 
-fn smaller(a: u64, b: u64) -> u64
-    ensures { λ r. ⌜ r ≡ lowerOf a b ⌝ }
+// The span with one global tick more.
+fn widened(a: Span, g: GlobalTick) -> Span
+    ensures { λ r. ⌜ r ≡ widenedBy a g ⌝ }
 {
-    if b < a { b } else { a }
+    let lowest = a.lowest;
+    let highest = a.highest;
+    let low = lowest.earliest(g);
+    let high = highest.latest(g);
+    Span {
+        verdict: Verdict::Accepted,
+        place: 0,
+        lowest: low,
+        highest: high,
+    }
 }
 
-// From this tick on all are clearly later than those of the global tick that starts here.
-fn clear_from(start: u64, ratio: u64) -> u64
-    ensures { λ r. ⌜ r ≡ clearFrom ratio start ⌝ }
+// Some global tick is clearly earlier than another.
+fn is_torn(a: Span) -> bool
+    ensures { λ r. ⌜ r ≡ clearlyEarlier (a .lowest) (a .highest) ⌝ }
 {
-    let two = std::num::wrapping_add_u64(ratio, ratio);
-    std::num::wrapping_add_u64(start, two)
+    let lowest = a.lowest;
+    let highest = a.highest;
+    lowest.clearly_earlier(highest)
 }
 
-// The marks stay in one place and are lent to each step.
+fn note_down(notes: &mut ListNotes, s: Timestamp, g: GlobalTick)
+    requires { ⌜ valid s ≡ true ⌝ }
+    ensures { λ _. ⌜ now (notes .exit) ≡ notedDown (now (notes .entry)) s g ⌝ }
+{
+    let k = s.logger as usize;
+    notes[k] = open_calls::note_of(s);
+    notes[k + 8] = g.0;
+}
+
+// The notes stay in one place and are lent to each step.
 pub fn fold_gather(init: Span, list: &[Timestamp], ratio: u64) -> Gathering
-    ensures { λ r. ⌜ r ≡ foldGather ratio 0 (gatheringOf init noMarks) (now (list .entry)) ⌝ }
+    ensures { λ r. ⌜ r ≡ foldGather (clocksOf ratio) 0 (gatheringOf init noNotes) (now (list .entry)) ⌝ }
 {
-    let mut marks: [u64; 8] = [0; 8];
+    let mut notes: ListNotes = [0; 16];
     let mut a = init;
     let mut i: usize = 0;
     while i < list.len() {
         let s = list[i];
-        a = gather_step(a, &mut marks, s, i, ratio);
+        a = gather_step(a, &mut notes, s, i, ratio);
         i = i + 1;
     }
     Gathering {
         span: a,
-        marks: marks,
+        notes: notes,
     }
 }
 
 // The same for the second list: called from one place each, both are compiled into `compare`.
 pub fn fold_second(init: Span, list: &[Timestamp], ratio: u64) -> Gathering
-    ensures { λ r. ⌜ r ≡ foldGather ratio 0 (gatheringOf init noMarks) (now (list .entry)) ⌝ }
+    ensures { λ r. ⌜ r ≡ foldGather (clocksOf ratio) 0 (gatheringOf init noNotes) (now (list .entry)) ⌝ }
 {
-    let mut marks: [u64; 8] = [0; 8];
+    let mut notes: ListNotes = [0; 16];
     let mut a = init;
     let mut i: usize = 0;
     while i < list.len() {
         let s = list[i];
-        a = gather_step(a, &mut marks, s, i, ratio);
+        a = gather_step(a, &mut notes, s, i, ratio);
         i = i + 1;
     }
     Gathering {
         span: a,
-        marks: marks,
+        notes: notes,
     }
 }
 
@@ -231,36 +249,44 @@ pub fn after_first(a: Gathering, n: usize, m: usize) -> CompareStart
     }
 }
 
-// A mark w of the second list is after some of the first: the first has m of its logger.
-fn is_earlier(m: u64, w: u64, from: u64) -> bool
-    ensures { λ r. ⌜ r ≡ isEarlier from m w ⌝ }
+// How a list with the note `own` of a logger, and with the global ticks of `a`, meets that logger's timestamp of another list.
+fn meet(own: u64, t: LocalTick, g: GlobalTick, a: Span) -> Meeting
+    ensures { λ r. ⌜ r ≡ meetingOf a own t g ⌝ }
 {
-    if m == 0 {
-        from < w
+    let lowest = a.lowest;
+    let highest = a.highest;
+    let earlier = lowest.clearly_earlier(g);
+    let later = g.clearly_earlier(highest);
+    if own == 0 {
+        Meeting {
+            earlier: earlier,
+            later: later,
+        }
     } else {
-        either(from < w, m < w)
+        let o = LocalTick(own - 1);
+        let before = either(earlier, o.earlier(t));
+        let after = either(later, t.earlier(o));
+        Meeting {
+            earlier: before,
+            later: after,
+        }
     }
 }
 
-// And before some of the first.
-fn is_later(m: u64, w: u64, till: u64) -> bool
-    ensures { λ r. ⌜ r ≡ isLater till m w ⌝ }
+// One logger place more: the second list's note there, and its global tick.
+fn relate_at(r: Relation, own: u64, note: u64, g: u64, a: Span) -> Relation
+    ensures { λ q. ⌜ q ≡ relatedAt a own note g r ⌝ }
 {
-    either(w <= till, w < m)
-}
-
-fn relate_at(r: Relation, m: u64, w: u64, from: u64, till: u64) -> Relation
-    ensures { λ q. ⌜ q ≡ relatedAt from till m w r ⌝ }
-{
-    if w == 0 {
+    if note == 0 {
         return r;
     }
-    let earlier = is_earlier(m, w, from);
-    let later = is_later(m, w, till);
-    let neither = both(!earlier, !later);
-    let before = both(r.before, earlier);
+    let t = LocalTick(note - 1);
+    let global = GlobalTick(g);
+    let m = meet(own, t, global, a);
+    let neither = both(!m.earlier, !m.later);
+    let before = both(r.before, m.earlier);
     let concurrent = both(r.concurrent, neither);
-    let weakly = both(r.weakly_before, !later);
+    let weakly = both(r.weakly_before, !m.later);
     Relation {
         before: before,
         concurrent: concurrent,
@@ -268,9 +294,9 @@ fn relate_at(r: Relation, m: u64, w: u64, from: u64, till: u64) -> Relation
     }
 }
 
-// How the first list's marks stand to the second's.
-fn relate(first: [u64; 8], second: [u64; 8], from: u64, till: u64) -> Relation
-    ensures { λ r. ⌜ r ≡ relatedMarks from till first second ⌝ }
+// How the first list stands to the second, place by place of the second.
+fn relate(a: Span, first: ListNotes, second: ListNotes) -> Relation
+    ensures { λ r. ⌜ r ≡ relatedNotes a first second ⌝ }
 {
     let mut r = Relation {
         before: true,
@@ -279,7 +305,7 @@ fn relate(first: [u64; 8], second: [u64; 8], from: u64, till: u64) -> Relation
     };
     let mut k: usize = 0;
     while k < 8 {
-        r = relate_at(r, first[k], second[k], from, till);
+        r = relate_at(r, first[k], second[k], second[k + 8], a);
         k = k + 1;
     }
     r
@@ -295,9 +321,9 @@ pub fn compare_done(a: Gathering, b: Gathering, n: usize) -> Comparison
         let place = place_after(n, last.place);
         refused_comparison(v, place)
     } else {
-        let first = a.marks;
-        let second = b.marks;
-        let r = relate(first, second, span.from, span.till);
+        let first = a.notes;
+        let second = b.notes;
+        let r = relate(span, first, second);
         Comparison {
             number: 0,
             place: 0,

@@ -16,6 +16,7 @@ use Rattle.timestamps.specs.declared.Timestamp.{Timestamp}
 use Rattle.timestamps.specs.Composite.{members}
 use Rattle.timestamps.specs.Maxima.{maxima, StrictOrder}
 use Rattle.timestamps.proofs.Maxima.{maxima-in, maxima-of, maxima-reach}
+use Rattle.timestamps.specs.Order.{Clocks}
 use Rattle.occurrences.specs.declared.Occurrence.{Occurrence}
 use Rattle.occurrences.specs.Occurrences.{isBefore}
 use Rattle.occurrences.proofs.Order.{before-carries, not-before-itself}
@@ -27,47 +28,47 @@ use Rattle.contexts.specs.Table.{Taken, latest, earliest, every, Removed
 pub tested-candidates : (p : Occurrence → Bool) (waiting : List Occurrence) → marked waiting (padded 16 (map p waiting)) ≡ filter p waiting
 tested-candidates p waiting = marked-padded 16 (map p waiting) waiting ∙ marked-map p waiting
 
-pub seq-candidates : (ratio : ℕ) (waiting : List Occurrence) (o : Occurrence) → marked waiting (seqCandidates ratio waiting o) ≡ filter (λ w. isBefore ratio w o) waiting
+pub seq-candidates : (clocks : Clocks) (waiting : List Occurrence) (o : Occurrence) → marked waiting (seqCandidates clocks waiting o) ≡ filter (λ w. isBefore clocks w o) waiting
 unfolding seqCandidates
-seq-candidates ratio waiting o = tested-candidates (λ w. isBefore ratio w o) waiting
+seq-candidates clocks waiting o = tested-candidates (λ w. isBefore clocks w o) waiting
 
 pub and-candidates : (waiting : List Occurrence) → marked waiting (andCandidates waiting) ≡ waiting
 unfolding andCandidates
 and-candidates waiting = tested-candidates (λ w. true) waiting ∙ filter-all (λ w. true) waiting (λ w m. refl)
 
 -- ---- those taken: the candidates that the rule takes, in waiting order
-pub taken-are : (t : Taken) (ratio : ℕ) (waiting : List Occurrence) (candidates : List Bool)
-    → marked waiting (takenOf t ratio waiting candidates) ≡ filter (takes t ratio (marked waiting candidates)) (marked waiting candidates)
+pub taken-are : (t : Taken) (clocks : Clocks) (waiting : List Occurrence) (candidates : List Bool)
+    → marked waiting (takenOf t clocks waiting candidates) ≡ filter (takes t clocks (marked waiting candidates)) (marked waiting candidates)
 unfolding takenOf
-taken-are t ratio waiting candidates = marked-padded 16 _ waiting ∙ marked-and (takes t ratio (marked waiting candidates)) waiting candidates
+taken-are t clocks waiting candidates = marked-padded 16 _ waiting ∙ marked-and (takes t clocks (marked waiting candidates)) waiting candidates
 
 -- latest: the greatest of the candidates by the order of occurrences
-pub latest-are : (ratio : ℕ) (waiting : List Occurrence) (candidates : List Bool) → marked waiting (takenOf latest ratio waiting candidates) ≡ maxima (isBefore ratio) (marked waiting candidates)
+pub latest-are : (clocks : Clocks) (waiting : List Occurrence) (candidates : List Bool) → marked waiting (takenOf latest clocks waiting candidates) ≡ maxima (isBefore clocks) (marked waiting candidates)
 unfolding takes maxima
-latest-are ratio waiting candidates = taken-are latest ratio waiting candidates
+latest-are clocks waiting candidates = taken-are latest clocks waiting candidates
 
 -- earliest: the greatest by that order turned round
-pub earliest-are : (ratio : ℕ) (waiting : List Occurrence) (candidates : List Bool) → marked waiting (takenOf earliest ratio waiting candidates) ≡ maxima (λ a b. isBefore ratio b a) (marked waiting candidates)
+pub earliest-are : (clocks : Clocks) (waiting : List Occurrence) (candidates : List Bool) → marked waiting (takenOf earliest clocks waiting candidates) ≡ maxima (λ a b. isBefore clocks b a) (marked waiting candidates)
 unfolding takes maxima
-earliest-are ratio waiting candidates = taken-are earliest ratio waiting candidates
+earliest-are clocks waiting candidates = taken-are earliest clocks waiting candidates
 
-pub every-are : (ratio : ℕ) (waiting : List Occurrence) (candidates : List Bool) → marked waiting (takenOf every ratio waiting candidates) ≡ marked waiting candidates
+pub every-are : (clocks : Clocks) (waiting : List Occurrence) (candidates : List Bool) → marked waiting (takenOf every clocks waiting candidates) ≡ marked waiting candidates
 unfolding takes
-every-are ratio waiting candidates = taken-are every ratio waiting candidates ∙ filter-all (λ w. true) (marked waiting candidates) (λ w m. refl)
+every-are clocks waiting candidates = taken-are every clocks waiting candidates ∙ filter-all (λ w. true) (marked waiting candidates) (λ w m. refl)
 
 -- "no other candidate": with at least one stamp an occurrence is not before itself, so the others decide
-module _ (ratio : ℕ) (l m : List Occurrence) (w : Occurrence) {s : Timestamp} (some : s ∈ members (w .latest)) where
-  pub latest-others : takes latest ratio (l ++ w ∷ m) w ≡ not (any (λ c. isBefore ratio w c) (l ++ m))
+module _ (clocks : Clocks) (l m : List Occurrence) (w : Occurrence) {s : Timestamp} (some : s ∈ members (w .latest)) where
+  pub latest-others : takes latest clocks (l ++ w ∷ m) w ≡ not (any (λ c. isBefore clocks w c) (l ++ m))
   unfolding takes any
   latest-others =
-      let here : any (λ c. isBefore ratio w c) (w ∷ m) ≡ any (λ c. isBefore ratio w c) m = rw (not-before-itself ratio w some) in
-      rw (any-append (λ c. isBefore ratio w c) l (w ∷ m), any-append (λ c. isBefore ratio w c) l m, here)
+      let here : any (λ c. isBefore clocks w c) (w ∷ m) ≡ any (λ c. isBefore clocks w c) m = rw (not-before-itself clocks w some) in
+      rw (any-append (λ c. isBefore clocks w c) l (w ∷ m), any-append (λ c. isBefore clocks w c) l m, here)
 
-  pub earliest-others : takes earliest ratio (l ++ w ∷ m) w ≡ not (any (λ c. isBefore ratio c w) (l ++ m))
+  pub earliest-others : takes earliest clocks (l ++ w ∷ m) w ≡ not (any (λ c. isBefore clocks c w) (l ++ m))
   unfolding takes any
   earliest-others =
-      let here : any (λ c. isBefore ratio c w) (w ∷ m) ≡ any (λ c. isBefore ratio c w) m = rw (not-before-itself ratio w some) in
-      rw (any-append (λ c. isBefore ratio c w) l (w ∷ m), any-append (λ c. isBefore ratio c w) l m, here)
+      let here : any (λ c. isBefore clocks c w) (w ∷ m) ≡ any (λ c. isBefore clocks c w) m = rw (not-before-itself clocks w some) in
+      rw (any-append (λ c. isBefore clocks c w) l (w ∷ m), any-append (λ c. isBefore clocks c w) l m, here)
 
 -- ---- where there is a candidate one is taken, if each has a stamp, as in every run
 abbrev pub Stamped : Occurrence → Type 0
@@ -103,15 +104,15 @@ module _ (R : Occurrence → Occurrence → Bool) (irreflexive : (w : Occurrence
           let (s, n) = h b k in
           never-both (and-both (R v b) (stamped b) e (any-in (λ s. true) (members (b .latest)) n refl)) (none b k)))
 
-pub some-taken : (t : Taken) (ratio : ℕ) (waiting : List Occurrence) (candidates : List Bool) {w : Occurrence} → w ∈ marked waiting candidates
-    → ((v : Occurrence) → v ∈ marked waiting candidates → Stamped v) → (v : Occurrence) × (v ∈ marked waiting (takenOf t ratio waiting candidates))
-some-taken latest ratio waiting candidates m h =
-    rw (latest-are ratio waiting candidates)
-    (some-greatest (isBefore ratio) (λ w e. not-before-itself ratio w (e .1)) (before-carries ratio) (marked waiting candidates) m h)
-some-taken earliest ratio waiting candidates m h =
-    rw (earliest-are ratio waiting candidates)
-    (some-greatest (λ a b. isBefore ratio b a) (λ w e. not-before-itself ratio w (e .1)) (λ a b c p q. before-carries ratio c b a q p) (marked waiting candidates) m h)
-some-taken every ratio waiting candidates {w} m h = rw (every-are ratio waiting candidates) (w, m)
+pub some-taken : (t : Taken) (clocks : Clocks) (waiting : List Occurrence) (candidates : List Bool) {w : Occurrence} → w ∈ marked waiting candidates
+    → ((v : Occurrence) → v ∈ marked waiting candidates → Stamped v) → (v : Occurrence) × (v ∈ marked waiting (takenOf t clocks waiting candidates))
+some-taken latest clocks waiting candidates m h =
+    rw (latest-are clocks waiting candidates)
+    (some-greatest (isBefore clocks) (λ w e. not-before-itself clocks w (e .1)) (before-carries clocks) (marked waiting candidates) m h)
+some-taken earliest clocks waiting candidates m h =
+    rw (earliest-are clocks waiting candidates)
+    (some-greatest (λ a b. isBefore clocks b a) (λ w e. not-before-itself clocks w (e .1)) (λ a b c p q. before-carries clocks c b a q p) (marked waiting candidates) m h)
+some-taken every clocks waiting candidates {w} m h = rw (every-are clocks waiting candidates) (w, m)
 
 -- ---- place by place
 taken-place : (f : Occurrence → Bool) (l : List Occurrence) (m : List Bool) (k : ℕ) → getD (zipWith (λ w c. c && f w) l m) k false ≡ true → getD m k false ≡ true
@@ -128,47 +129,47 @@ removed-place x (c ∷ m) [] k e = absurd (never-both e refl)
 removed-place x (c ∷ m) (b ∷ t) zero e = e
 removed-place x (c ∷ m) (b ∷ t) (suc k) e = removed-place x m t k e
 
-module _ (ratio : ℕ) (waiting : List Occurrence) (candidates : List Bool) (k : ℕ) where
+module _ (clocks : Clocks) (waiting : List Occurrence) (candidates : List Bool) (k : ℕ) where
   -- a taken place is a candidate
-  pub taken-candidate : (t : Taken) → getD (takenOf t ratio waiting candidates) k false ≡ true → getD candidates k false ≡ true
+  pub taken-candidate : (t : Taken) → getD (takenOf t clocks waiting candidates) k false ≡ true → getD candidates k false ≡ true
   unfolding takenOf
-  taken-candidate t e = taken-place (takes t ratio (marked waiting candidates)) waiting candidates k (sym (getD-padded 16 _ k) ∙ e)
+  taken-candidate t e = taken-place (takes t clocks (marked waiting candidates)) waiting candidates k (sym (getD-padded 16 _ k) ∙ e)
 
   -- a removed place is a candidate
-  pub removed-candidate : (row : Context) → getD (chosen row ratio waiting candidates .removed) k false ≡ true → getD candidates k false ≡ true
+  pub removed-candidate : (row : Context) → getD (chosen row clocks waiting candidates .removed) k false ≡ true → getD candidates k false ≡ true
   unfolding chosen removedOf removes
-  removed-candidate row e = go (row .removes) (removed-place (row .removes) candidates (takenOf (row .takes) ratio waiting candidates) k e)
+  removed-candidate row e = go (row .removes) (removed-place (row .removes) candidates (takenOf (row .takes) clocks waiting candidates) k e)
     where
-      go : (x : Removed) → removes x (getD candidates k false) (getD (takenOf (row .takes) ratio waiting candidates) k false) ≡ true → getD candidates k false ≡ true
+      go : (x : Removed) → removes x (getD candidates k false) (getD (takenOf (row .takes) clocks waiting candidates) k false) ≡ true → getD candidates k false ≡ true
       go untaken e = and-left _ _ e
       go taken e = taken-candidate (row .takes) e
       go all e = e
 
   -- in recent no taken place is removed
-  pub recent-keeps-taken : getD (chosen recent ratio waiting candidates .taken) k false ≡ true → getD (chosen recent ratio waiting candidates .removed) k false ≡ false
+  pub recent-keeps-taken : getD (chosen recent clocks waiting candidates .taken) k false ≡ true → getD (chosen recent clocks waiting candidates .removed) k false ≡ false
   unfolding chosen removedOf removes
   recent-keeps-taken e = false-of-not-true _ (λ r.
-      never-both e (not-true _ (and-right (getD candidates k false) _ (removed-place untaken candidates (takenOf latest ratio waiting candidates) k r))))
+      never-both e (not-true _ (and-right (getD candidates k false) _ (removed-place untaken candidates (takenOf latest clocks waiting candidates) k r))))
 
   -- and no place that is no candidate
-  pub recent-keeps-others : getD candidates k false ≡ false → getD (chosen recent ratio waiting candidates .removed) k false ≡ false
+  pub recent-keeps-others : getD candidates k false ≡ false → getD (chosen recent clocks waiting candidates .removed) k false ≡ false
   recent-keeps-others e = false-of-not-true _ (λ r. never-both (removed-candidate recent r) e)
 
 -- ---- without candidates nothing is taken or removed
-module _ (row : Context) (ratio : ℕ) (waiting : List Occurrence) (candidates : List Bool) (none : marked waiting candidates ≡ []) where
-  pub none-taken : marked waiting (chosen row ratio waiting candidates .taken) ≡ []
+module _ (row : Context) (clocks : Clocks) (waiting : List Occurrence) (candidates : List Bool) (none : marked waiting candidates ≡ []) where
+  pub none-taken : marked waiting (chosen row clocks waiting candidates .taken) ≡ []
   unfolding chosen
-  none-taken = taken-are (row .takes) ratio waiting candidates ∙ rw none (filter-nil _)
+  none-taken = taken-are (row .takes) clocks waiting candidates ∙ rw none (filter-nil _)
 
-  pub none-removed : unmarked waiting (chosen row ratio waiting candidates .removed) ≡ waiting
-  none-removed = unmarked-within waiting candidates _ (λ k. removed-candidate ratio waiting candidates k row) none
+  pub none-removed : unmarked waiting (chosen row clocks waiting candidates .removed) ≡ waiting
+  none-removed = unmarked-within waiting candidates _ (λ k. removed-candidate clocks waiting candidates k row) none
 
 -- ---- waiting order is kept
-module _ (row : Context) (ratio : ℕ) (waiting : List Occurrence) (candidates : List Bool) where
-  pub taken-order : Sublistᴰ (marked waiting (chosen row ratio waiting candidates .taken)) waiting
+module _ (row : Context) (clocks : Clocks) (waiting : List Occurrence) (candidates : List Bool) where
+  pub taken-order : Sublistᴰ (marked waiting (chosen row clocks waiting candidates .taken)) waiting
   taken-order = marked-order waiting _
 
-  pub left-order : Sublistᴰ (unmarked waiting (chosen row ratio waiting candidates .removed)) waiting
+  pub left-order : Sublistᴰ (unmarked waiting (chosen row clocks waiting candidates .removed)) waiting
   left-order = unmarked-order waiting _
 
 -- ---- where a test says which are candidates, everything is said by tests
@@ -179,18 +180,18 @@ nothing-removed untaken = refl
 nothing-removed taken = refl
 nothing-removed all = refl
 
-module _ (row : Context) (ratio : ℕ) (p : Occurrence → Bool) (waiting : List Occurrence) where
+module _ (row : Context) (clocks : Clocks) (p : Occurrence → Bool) (waiting : List Occurrence) where
   abbrev isTaken : Occurrence → Bool
-  isTaken = takes (row .takes) ratio (filter p waiting)
+  isTaken = takes (row .takes) clocks (filter p waiting)
 
   abbrev marks : List Bool
   marks = padded 16 (map p waiting)
 
-  pub tested-taken : chosen row ratio waiting marks .taken ≡ padded 16 (map (λ w. p w && isTaken w) waiting)
+  pub tested-taken : chosen row clocks waiting marks .taken ≡ padded 16 (map (λ w. p w && isTaken w) waiting)
   unfolding chosen takenOf
-  tested-taken = ap (padded 16) (zip-test (λ w c. c && takes (row .takes) ratio (marked waiting marks) w) p 16 waiting ∙ rw (tested-candidates p waiting))
+  tested-taken = ap (padded 16) (zip-test (λ w c. c && takes (row .takes) clocks (marked waiting marks) w) p 16 waiting ∙ rw (tested-candidates p waiting))
 
-  pub tested-removed : chosen row ratio waiting marks .removed ≡ padded 16 (map (λ w. removes (row .removes) (p w) (p w && isTaken w)) waiting)
+  pub tested-removed : chosen row clocks waiting marks .removed ≡ padded 16 (map (λ w. removes (row .removes) (p w) (p w && isTaken w)) waiting)
   unfolding chosen removedOf
   tested-removed =
       ap (removedOf (row .removes) marks) tested-taken
@@ -198,5 +199,5 @@ module _ (row : Context) (ratio : ℕ) (p : Occurrence → Bool) (waiting : List
       ∙ ap (padded 16) (zip-maps (removes (row .removes)) p (λ w. p w && isTaken w) waiting)
 
   -- what is left
-  pub tested-left : unmarked waiting (chosen row ratio waiting marks .removed) ≡ filter (λ w. not (removes (row .removes) (p w) (p w && isTaken w))) waiting
+  pub tested-left : unmarked waiting (chosen row clocks waiting marks .removed) ≡ filter (λ w. not (removes (row .removes) (p w) (p w && isTaken w))) waiting
   tested-left = ap (unmarked waiting) tested-removed ∙ unmarked-padded 16 _ waiting ∙ unmarked-map (λ w. removes (row .removes) (p w) (p w && isTaken w)) waiting

@@ -10,6 +10,7 @@ use Rattle.sequences.specs.Marks.{firstMark, marked}
 use Rattle.sequences.specs.Members.{_∈_}
 use Rattle.sequences.proofs.Marks.{marked-none, marked-some}
 use Rattle.sequences.proofs.Members.{map-of, same-swap}
+use Rattle.timestamps.specs.Order.{Clocks}
 use Rattle.occurrences.specs.declared.Occurrence.{Occurrence}
 use Rattle.occurrences.specs.Combination.{combinationOf, combinedOf}
 use Rattle.occurrences.proofs.Combination.{combination-fold, combination-same, combination-two}
@@ -19,57 +20,57 @@ use Rattle.contexts.specs.Table.{Findings, each, together, Context}
 use Rattle.contexts.proofs.Choices.{none-taken}
 
 -- of nothing nothing is made
-pub made-none : (x : Findings) (ratio : ℕ) (o : Occurrence) → madeOf x ratio [] o ≡ []
+pub made-none : (x : Findings) (clocks : Clocks) (o : Occurrence) → madeOf x clocks [] o ≡ []
 unfolding madeOf
-made-none each ratio o = refl
-made-none together ratio o = refl
+made-none each clocks o = refl
+made-none together clocks o = refl
 
 -- without candidates nothing is made
-pub none-made : (row : Context) (ratio : ℕ) (waiting : List Occurrence) (candidates : List Bool) (o : Occurrence) → marked waiting candidates ≡ []
-    → madeOf (row .finds) ratio (marked waiting (chosen row ratio waiting candidates .taken)) o ≡ []
-none-made row ratio waiting candidates o none = ap (λ l. madeOf (row .finds) ratio l o) (none-taken row ratio waiting candidates none) ∙ made-none (row .finds) ratio o
+pub none-made : (row : Context) (clocks : Clocks) (waiting : List Occurrence) (candidates : List Bool) (o : Occurrence) → marked waiting candidates ≡ []
+    → madeOf (row .finds) clocks (marked waiting (chosen row clocks waiting candidates .taken)) o ≡ []
+none-made row clocks waiting candidates o none = ap (λ l. madeOf (row .finds) clocks l o) (none-taken row clocks waiting candidates none) ∙ made-none (row .finds) clocks o
 
 -- one for each taken, or at most one for all
-pub made-each : (ratio : ℕ) (those : List Occurrence) (o : Occurrence) → length (madeOf each ratio those o) ≡ length those
+pub made-each : (clocks : Clocks) (those : List Occurrence) (o : Occurrence) → length (madeOf each clocks those o) ≡ length those
 unfolding madeOf
-made-each ratio those o = length-map those (λ w. combinedOf ratio w o)
+made-each clocks those o = length-map those (λ w. combinedOf clocks w o)
 
-pub made-together : (ratio : ℕ) (those : List Occurrence) (o : Occurrence) → length (madeOf together ratio those o) ≤ 1
+pub made-together : (clocks : Clocks) (those : List Occurrence) (o : Occurrence) → length (madeOf together clocks those o) ≤ 1
 unfolding madeOf
-made-together ratio [] o = omega arith
-made-together ratio (w ∷ those) o = omega arith
+made-together clocks [] o = omega arith
+made-together clocks (w ∷ those) o = omega arith
 
 -- the arrival with all taken one after another: where one is taken that is made, and where none is nothing
-module _ (ratio : ℕ) (o : Occurrence) (waiting : List Occurrence) (m : List Bool) (first n : ℕ) (at : first ≡ firstMark m) (many : n ≡ length waiting) where
-  pub together-some : n ≤ 16 → length m ≡ 16 → first < n → fold (combinedOf ratio) (marked waiting m) o ∷ [] ≡ madeOf together ratio (marked waiting m) o
+module _ (clocks : Clocks) (o : Occurrence) (waiting : List Occurrence) (m : List Bool) (first n : ℕ) (at : first ≡ firstMark m) (many : n ≡ length waiting) where
+  pub together-some : n ≤ 16 → length m ≡ 16 → first < n → fold (combinedOf clocks) (marked waiting m) o ∷ [] ≡ madeOf together clocks (marked waiting m) o
   unfolding madeOf
   together-some few long h =
       let (w, rest, f) = marked-some waiting m (omega arith) (omega arith) in
-      rw f (ap (λ x. x ∷ []) (combination-fold ratio o w rest))
+      rw f (ap (λ x. x ∷ []) (combination-fold clocks o w rest))
 
-  pub together-none : n ≤ first → madeOf together ratio (marked waiting m) o ≡ []
-  together-none h = ap (λ l. madeOf together ratio l o) (marked-none waiting m (omega arith)) ∙ made-none together ratio o
+  pub together-none : n ≤ first → madeOf together clocks (marked waiting m) o ≡ []
+  together-none h = ap (λ l. madeOf together clocks l o) (marked-none waiting m (omega arith)) ∙ made-none together clocks o
 
 -- no mark among 16 places: none of at most 16 is marked
 pub none-marked : (waiting : List Occurrence) (m : List Bool) → length waiting ≤ 16 → 16 ≤ firstMark m → marked waiting m ≡ []
 none-marked waiting m few h = marked-none waiting m (omega arith)
 
 -- whatever is made is the combination of the arrival and one or more of those taken
-pub record MadeOf (ratio : ℕ) (those : List Occurrence) (o made : Occurrence) : Type 0 where
+pub record MadeOf (clocks : Clocks) (those : List Occurrence) (o made : Occurrence) : Type 0 where
   pub first : Occurrence
   pub more : List Occurrence
   pub within : (p : Occurrence) → p ∈ (first ∷ more) → p ∈ those
-  pub combined : made ≡ combinationOf ratio (o ∷ first ∷ more)
+  pub combined : made ≡ combinationOf clocks (o ∷ first ∷ more)
 
-pub made-parts : (x : Findings) (ratio : ℕ) (those : List Occurrence) (o : Occurrence) {made : Occurrence} → made ∈ madeOf x ratio those o → MadeOf ratio those o made
+pub made-parts : (x : Findings) (clocks : Clocks) (those : List Occurrence) (o : Occurrence) {made : Occurrence} → made ∈ madeOf x clocks those o → MadeOf clocks those o made
 unfolding madeOf
-made-parts each ratio those o m =
-    let (w, i, e) = map-of (λ w. combinedOf ratio w o) those m in
+made-parts each clocks those o m =
+    let (w, i, e) = map-of (λ w. combinedOf clocks w o) those m in
     record {
       first = w;
       more = [];
       within = λ p j. Memᴰ·cast (List·Memᴰ·eq-of-singleton j) i;
-      combined = e ∙ combination-two ratio w o ∙ combination-same ratio (w ∷ o ∷ []) (o ∷ w ∷ []) (same-swap (w ∷ []) (o ∷ []));
+      combined = e ∙ combination-two clocks w o ∙ combination-same clocks (w ∷ o ∷ []) (o ∷ w ∷ []) (same-swap (w ∷ []) (o ∷ []));
     }
-made-parts together ratio [] o m = absurd (List·Memᴰ·not-nil m)
-made-parts together ratio (w ∷ those) o m = record { first = w; more = those; within = λ p j. j; combined = List·Memᴰ·eq-of-singleton m }
+made-parts together clocks [] o m = absurd (List·Memᴰ·not-nil m)
+made-parts together clocks (w ∷ those) o m = record { first = w; more = those; within = λ p j. j; combined = List·Memᴰ·eq-of-singleton m }

@@ -1,4 +1,5 @@
 pub mod Choices
+pub mod Combines
 pub mod Findings
 pub mod Steps
 pub mod Table

@@ -18,14 +18,15 @@ use Rattle.sequences.proofs.Arrays.{getD-zip, length-zip}
 use Rattle.sequences.proofs.Parts.{getD-map}
 use Rattle.sequences.proofs.Marks.{any-marked-no, any-marked-yes, fold-marked, padded-start}
 use Rattle.sequences.proofs.Select.{any-none}
+use Rattle.timestamps.specs.Composite.{IsComposite, members}
+use Rattle.timestamps.specs.Order.{Clocks}
 use Rattle.occurrences.specs.declared.Occurrence.{Occurrence}
 use Rattle.occurrences.specs.Occurrences.{blank, isBefore}
-use Rattle.occurrences.specs.Packed.{held, occurrenceOf}
-use Rattle.occurrences.specs.Steps.{LowestOf}
+use Rattle.occurrences.specs.Steps.{Decided, LowestOf}
+use Rattle.occurrences.proofs.Order.{not-before-itself}
 use Rattle.occurrences.proofs.Steps.{next-place}
 use Rattle.waiting_lists.specs.Marks.{marksOf}
 use Rattle.waiting_lists.proofs.Marks.{length-marks, marks-and, marks-less, marks-turn, padded-next}
-use Rattle.waiting_lists.proofs.Places.{waiting-at}
 use Rattle.contexts.specs.declared.Row.{Row}
 use Rattle.contexts.specs.Choice.{andCandidates, chosen, removedOf, removes, takenOf, takes}
 use Rattle.contexts.specs.Steps.{Lows, barsOf}
@@ -74,87 +75,90 @@ pub marked-on : (b x r : Bool) → not b ≡ false → r ≡ x → r ≡ (b && x
 marked-on b x r e f = rw (not-false b e) f
 
 -- what a rule's code means of two
-module _ (code ratio : ℕ) (w c : Occurrence) where
-  pub bars-latest : code ≡ 0 → barsOf (takesOf code) ratio w c ≡ isBefore ratio w c
+module _ (code : ℕ) (clocks : Clocks) (w c : Occurrence) where
+  pub bars-latest : code ≡ 0 → barsOf (takesOf code) clocks w c ≡ isBefore clocks w c
   unfolding barsOf
   bars-latest e = rw (code-latest code e)
 
-  pub bars-earliest : (code ≡ 0 → ⊥) → code ≡ 1 → barsOf (takesOf code) ratio w c ≡ isBefore ratio c w
+  pub bars-earliest : (code ≡ 0 → ⊥) → code ≡ 1 → barsOf (takesOf code) clocks w c ≡ isBefore clocks c w
   unfolding barsOf
   bars-earliest n e = rw (code-earliest code n e)
 
-  pub bars-every : (code ≡ 0 → ⊥) → (code ≡ 1 → ⊥) → barsOf (takesOf code) ratio w c ≡ false
+  pub bars-every : (code ≡ 0 → ⊥) → (code ≡ 1 → ⊥) → barsOf (takesOf code) clocks w c ≡ false
   unfolding barsOf
   bars-every n o = rw (code-every code n o)
 
 -- 1 for yes and 0 for no
-pub decided-is : (d : ℕ) (t : Bool) → d < 2 → (d ≡ 0 → t ≡ false) × (d ≡ 1 → t ≡ true) → eqb d 1 ≡ t
+pub decided-is : (d : ℕ) (t : Bool) → d < 2 → Decided t d → eqb d 1 ≡ t
 decided-is d t h e = elim (ℕ-discrete d 1) [
-  | yes q ↦ eq-eqb d 1 q ∙ sym (e .1 q)
-  | no q ↦ ne-eqb d 1 q ∙ sym (e .0 (omega (arith, h, q)))
+  | yes q ↦ eq-eqb d 1 q ∙ sym (e .yes q)
+  | no q ↦ ne-eqb d 1 q ∙ sym (e .no (omega (arith, h, q)))
 ]
 
 -- the lowest of one more
-pub lows-turn : (ticks : List ℕ) (list : List (List ℕ)) (lows : List ℕ) (i v : ℕ) → i < length lows → LowestOf ticks (getD list i []) v → Lows ticks list i lows → Lows ticks list (i + 1) (set lows i v)
-lows-turn ticks list lows i v h e l = next-place (λ j. LowestOf ticks (getD list j []) (getD (set lows i v) j 0)) i
+pub lows-turn : (globals : List ℕ) (list : List (List ℕ)) (lows : List ℕ) (i v : ℕ) → i < length lows → LowestOf globals (getD list i []) v → Lows globals list i lows → Lows globals list (i + 1) (set lows i v)
+lows-turn globals list lows i v h e l = next-place (λ j. LowestOf globals (getD list j []) (getD (set lows i v) j 0)) i
     (λ j m. rw (getD-set-other lows i j v 0 (λ d. omega (arith, d, m))) (l j m))
     (rw (getD-set-same lows i v 0 h) e)
 
 -- a candidate is taken where no candidate bars it
-takes-unbarred : (t : Taken) (ratio : ℕ) (candidates : List Occurrence) (w : Occurrence) → not (any (barsOf t ratio w) candidates) ≡ takes t ratio candidates w
+takes-unbarred : (t : Taken) (clocks : Clocks) (candidates : List Occurrence) (w : Occurrence) → not (any (barsOf t clocks w) candidates) ≡ takes t clocks candidates w
 unfolding barsOf takes
-takes-unbarred latest ratio candidates w = refl
-takes-unbarred earliest ratio candidates w = refl
-takes-unbarred every ratio candidates w = rw (any-none (λ c. false) candidates (λ c m. refl))
+takes-unbarred latest clocks candidates w = refl
+takes-unbarred earliest clocks candidates w = refl
+takes-unbarred every clocks candidates w = rw (any-none (λ c. false) candidates (λ c m. refl))
 
-module _ (mark : Bool) (code ratio : ℕ) (candidates : List Occurrence) (w : Occurrence) (on : not mark ≡ false) where
-  pub taken-unbarred : (r : Bool) → r ≡ any (barsOf (takesOf code) ratio w) candidates → not r ≡ (mark && takes (takesOf code) ratio candidates w)
-  taken-unbarred r e = rw (not-false mark on, e) (takes-unbarred (takesOf code) ratio candidates w)
+module _ (mark : Bool) (code : ℕ) (clocks : Clocks) (candidates : List Occurrence) (w : Occurrence) (on : not mark ≡ false) where
+  pub taken-unbarred : (r : Bool) → r ≡ any (barsOf (takesOf code) clocks w) candidates → not r ≡ (mark && takes (takesOf code) clocks candidates w)
+  taken-unbarred r e = rw (not-false mark on, e) (takes-unbarred (takesOf code) clocks candidates w)
 
 -- ---- marks that a loop fills, for 16 places
-module _ (ticks : List ℕ) (row : List (List ℕ)) (n : ℕ) (m : List Bool) (i : ℕ) (in-list : i < length (held ticks row n)) (few : length (held ticks row n) ≤ 16) where
-  abbrev waiting : List Occurrence
-  waiting = held ticks row n
-
+module _ (l : List Occurrence) (m : List Bool) (i : ℕ) (in-list : i < length l) (few : length l ≤ 16) where
   -- a test of each
-  pub tested-turn : (p : Occurrence → Bool) (r : List Bool) (v : Bool) → m ≡ padded 16 (take i (map p waiting)) → v ≡ p (occurrenceOf ticks (getD row i [])) → r ≡ pick v (set m i true) m
-      → r ≡ padded 16 (take (i + 1) (map p waiting))
-  tested-turn p r v e f g =
-      marks-turn (map p waiting) m r i v (omega (arith, length-map waiting p)) (omega (arith, length-map waiting p)) e (f ∙ ap p (waiting-at ticks row n i in-list) ∙ sym (getD-map p waiting i blank false in-list)) g
+  pub tested-turn : (p : Occurrence → Bool) (r : List Bool) (v : Bool) → m ≡ padded 16 (take i (map p l)) → v ≡ p (getD l i blank) → r ≡ pick v (set m i true) m
+      → r ≡ padded 16 (take (i + 1) (map p l))
+  tested-turn p r v e f g = marks-turn (map p l) m r i v (omega (arith, length-map l p)) (omega (arith, length-map l p)) e (f ∙ sym (getD-map p l i blank false in-list)) g
 
   -- a test of each with its mark
-  pub zipped-turn : (f : Occurrence → Bool → Bool) (marks r : List Bool) (mark v : Bool) → length marks ≡ 16 → m ≡ padded 16 (take i (zipWith f waiting marks))
-      → mark ≡ getD marks i false → v ≡ f (occurrenceOf ticks (getD row i [])) mark → r ≡ pick v (set m i true) m → r ≡ padded 16 (take (i + 1) (zipWith f waiting marks))
+  pub zipped-turn : (f : Occurrence → Bool → Bool) (marks r : List Bool) (mark v : Bool) → length marks ≡ 16 → m ≡ padded 16 (take i (zipWith f l marks))
+      → mark ≡ getD marks i false → v ≡ f (getD l i blank) mark → r ≡ pick v (set m i true) m → r ≡ padded 16 (take (i + 1) (zipWith f l marks))
   zipped-turn f marks r mark v h e is g t =
-      let k : length (zipWith f waiting marks) ≡ length waiting = length-zip f waiting marks (omega arith) in
-      marks-turn (zipWith f waiting marks) m r i v (omega arith) (omega arith) e (g ∙ ap₂ f (waiting-at ticks row n i in-list) is ∙ sym (getD-zip f waiting marks i blank false false in-list (omega arith))) t
+      let k : length (zipWith f l marks) ≡ length l = length-zip f l marks (omega arith) in
+      marks-turn (zipWith f l marks) m r i v (omega arith) (omega arith) e (g ∙ ap (f (getD l i blank)) is ∙ sym (getD-zip f l marks i blank false false in-list (omega arith))) t
 
--- ---- a loop over the places of a list: what the code reads at a place is what waits there
-module _ (ticks : List ℕ) (row : List (List ℕ)) (n : ℕ) (m : List Bool) (i : ℕ) (in-l : i < length (held ticks row n)) (in-m : i < length m) where
-  module _ (p : Occurrence → Bool) (mark r : Bool) (is : mark ≡ getD m i false) (told : r ≡ (mark && p (occurrenceOf ticks (getD row i [])))) where
-    told-here : (getD m i false && p (getD (held ticks row n) i blank)) ≡ r
-    told-here = ap (λ w. getD m i false && p w) (sym (waiting-at ticks row n i in-l)) ∙ sym (told ∙ ap (λ b. b && p (occurrenceOf ticks (getD row i []))) is)
+-- ---- a loop over the places of a list
+module _ (l : List Occurrence) (m : List Bool) (i : ℕ) (in-l : i < length l) (in-m : i < length m) where
+  module _ (p : Occurrence → Bool) (r : Bool) (told : (getD m i false && p (getD l i blank)) ≡ r) where
+    pub found-here : r ≡ true → any p (marked (drop i l) (drop i m)) ≡ true
+    found-here e = any-marked-yes l m i blank in-l in-m p (told ∙ e)
 
-    pub found-here : r ≡ true → any p (marked (drop i (held ticks row n)) (drop i m)) ≡ true
-    found-here e = any-marked-yes (held ticks row n) m i blank in-l in-m p (told-here ∙ e)
-
-    pub not-here : r ≡ false → any p (marked (drop i (held ticks row n)) (drop i m)) ≡ any p (marked (drop (i + 1) (held ticks row n)) (drop (i + 1) m))
-    not-here e = any-marked-no (held ticks row n) m i blank in-l in-m p (told-here ∙ e)
+    pub not-here : r ≡ false → any p (marked (drop i l) (drop i m)) ≡ any p (marked (drop (i + 1) l) (drop (i + 1) m))
+    not-here e = any-marked-no l m i blank in-l in-m p (told ∙ e)
 
   module _ {S : Type 0} (f : S → Occurrence → S) (s : S) where
-    combined-here : (r : S) → r ≡ pick (getD m i false) (f s (occurrenceOf ticks (getD row i []))) s
-        → fold f (marked (drop (i + 1) (held ticks row n)) (drop (i + 1) m)) r ≡ fold f (marked (drop i (held ticks row n)) (drop i m)) s
-    combined-here r e =
-        ap (fold f (marked (drop (i + 1) (held ticks row n)) (drop (i + 1) m))) (e ∙ ap (λ w. pick (getD m i false) (f s w) s) (waiting-at ticks row n i in-l))
-        ∙ fold-marked (held ticks row n) m i blank in-l in-m f s
-
-    pub combined-yes : (r : S) → getD m i false ≡ true → r ≡ f s (occurrenceOf ticks (getD row i []))
-        → fold f (marked (drop (i + 1) (held ticks row n)) (drop (i + 1) m)) r ≡ fold f (marked (drop i (held ticks row n)) (drop i m)) s
-    combined-yes r y e = combined-here r (rw y e)
+    pub combined-yes : (r : S) → getD m i false ≡ true → r ≡ f s (getD l i blank)
+        → fold f (marked (drop (i + 1) l) (drop (i + 1) m)) r ≡ fold f (marked (drop i l) (drop i m)) s
+    combined-yes r y e = ap (fold f (marked (drop (i + 1) l) (drop (i + 1) m))) (rw y e) ∙ fold-marked l m i blank in-l in-m f s
 
     pub combined-no : getD m i false ≡ false
-        → fold f (marked (drop (i + 1) (held ticks row n)) (drop (i + 1) m)) s ≡ fold f (marked (drop i (held ticks row n)) (drop i m)) s
-    combined-no n = combined-here s (rw n)
+        → fold f (marked (drop (i + 1) l) (drop (i + 1) m)) s ≡ fold f (marked (drop i l) (drop i m)) s
+    combined-no n = ap (fold f (marked (drop (i + 1) l) (drop (i + 1) m))) (rw n) ∙ fold-marked l m i blank in-l in-m f s
+
+-- ---- one candidate against itself: with a stamp it does not keep itself from being taken
+pub bars-itself : (t : Taken) (clocks : Clocks) (w : Occurrence) → IsComposite clocks (members (w .latest)) → barsOf t clocks w w ≡ false
+unfolding barsOf
+bars-itself latest clocks w c = not-before-itself clocks w (c .some .1)
+bars-itself earliest clocks w c = not-before-itself clocks w (c .some .1)
+bars-itself every clocks w c = refl
+
+-- so the others decide
+pub others-tell : (p : Occurrence → Bool) (l : List Occurrence) (i j : ℕ) (mark is r : Bool) → p (getD l i blank) ≡ false → is ≡ (not (eqb i j) && mark) → r ≡ (is && p (getD l j blank))
+    → (mark && p (getD l j blank)) ≡ r
+others-tell p l i j mark is r own e f = elim (ℕ-discrete i j) [
+  | yes q ↦ (let z : p (getD l j blank) ≡ false = ap (λ k. p (getD l k blank)) (sym q) ∙ own in
+      let y : is ≡ false = e ∙ rw (eq-eqb i j q) in rw (z, and-false mark) (sym (rw (y) at f)))
+  | no n ↦ (let y : is ≡ mark = e ∙ rw (ne-eqb i j n) in rw (← y) (sym f))
+]
 
 -- as many marks as wait
 pub all-marks : (n : ℕ) (waiting : List Occurrence) → n ≡ length waiting → padded 16 (replicate n true) ≡ andCandidates waiting
@@ -184,10 +188,10 @@ all-taken (suc n) (a ∷ l) (b ∷ m) h k =
     ∙ ap (λ r. (b && true) ∷ r) (all-taken n l m (omega arith) (omega arith))
     ∙ sym (padded-next n (b && true) (zipWith (λ w c. c && true) l m))
 
-pub every-taken : (code ratio : ℕ) (waiting : List Occurrence) (c r : ℕ) → 2 ≤ code → length waiting ≤ 16 → marksOf r ≡ andCandidates waiting
-    → marksOf (bitAnd c r) ≡ takenOf (takesOf code) ratio waiting (marksOf c)
+pub every-taken : (code : ℕ) (clocks : Clocks) (waiting : List Occurrence) (c r : ℕ) → 2 ≤ code → length waiting ≤ 16 → marksOf r ≡ andCandidates waiting
+    → marksOf (bitAnd c r) ≡ takenOf (takesOf code) clocks waiting (marksOf c)
 unfolding andCandidates takenOf takes
-every-taken code ratio waiting c r h few e =
+every-taken code clocks waiting c r h few e =
     rw (code-every code (λ z. omega (arith, z)) (λ z. omega (arith, z)))
     (marks-and c r ∙ ap (zipWith _&&_ (marksOf c)) e ∙ all-taken 16 waiting (marksOf c) (length-marks c) few)
 
@@ -222,11 +226,11 @@ module _ (code c t : ℕ) where
   unfolding removedOf removes
   removed-all n o = rw (code-all code n o) (sym (zip-left (marksOf c) (marksOf t) as-long))
 
-pub chosen-is : (ratio : ℕ) (x : Context) (row : Row) (waiting : List Occurrence) (candidates t r : List Bool) → contextOf row ≡ x
-    → t ≡ takenOf (takesOf (row .taken)) ratio waiting candidates → r ≡ removedOf (removesOf (row .removed)) candidates t
-    → (t ≡ chosen x ratio waiting candidates .taken) × (r ≡ chosen x ratio waiting candidates .removed)
+pub chosen-is : (clocks : Clocks) (x : Context) (row : Row) (waiting : List Occurrence) (candidates t r : List Bool) → contextOf row ≡ x
+    → t ≡ takenOf (takesOf (row .taken)) clocks waiting candidates → r ≡ removedOf (removesOf (row .removed)) candidates t
+    → (t ≡ chosen x clocks waiting candidates .taken) × (r ≡ chosen x clocks waiting candidates .removed)
 unfolding chosen contextOf
-chosen-is ratio x row waiting candidates t r e f g = rw (← e) (f, g ∙ ap (removedOf (removesOf (row .removed)) candidates) f)
+chosen-is clocks x row waiting candidates t r e f g = rw (← e) (f, g ∙ ap (removedOf (removesOf (row .removed)) candidates) f)
 
 -- ---- what is made
 pub finds-each : (x : Context) (row : Row) → contextOf row ≡ x → row .findings ≡ 0 → x .finds ≡ each

@@ -4,13 +4,14 @@ use mathlib.Core.List.{List, map, zipWith}
 use Prim.Native.Nat.{ℕ}
 use Rattle.sequences.specs.Marks.{marked, padded}
 use Rattle.sequences.specs.Select.{any}
+use Rattle.timestamps.specs.Order.{Clocks}
 use Rattle.occurrences.specs.declared.Occurrence.{Occurrence}
 use Rattle.occurrences.specs.Occurrences.{isBefore}
 use Rattle.contexts.specs.Table.{Taken, latest, earliest, every, Removed, untaken, taken, all, Context}
 
 -- SEQ: the candidates are the waiting occurrences whose stamp is before the arrival's
-unfoldable pub seqCandidates : ℕ → List Occurrence → Occurrence → List Bool
-seqCandidates ratio waiting o = padded 16 (map (λ w. isBefore ratio w o) waiting)
+unfoldable pub seqCandidates : Clocks → List Occurrence → Occurrence → List Bool
+seqCandidates clocks waiting o = padded 16 (map (λ w. isBefore clocks w o) waiting)
 
 -- AND: the candidates are all that wait on the other side
 unfoldable pub andCandidates : List Occurrence → List Bool
@@ -18,14 +19,14 @@ andCandidates waiting = padded 16 (map (λ w. true) waiting)
 
 -- a candidate is taken: it is before no other candidate; no other candidate is before it; always.
 -- "Other" needs no word: with at least one stamp an occurrence is not before itself (proofs/Choices.antt, latest-others, earliest-others)
-unfoldable pub takes : Taken → ℕ → List Occurrence → Occurrence → Bool
-takes latest ratio candidates w = not (any (λ c. isBefore ratio w c) candidates)
-takes earliest ratio candidates w = not (any (λ c. isBefore ratio c w) candidates)
-takes every ratio candidates w = true
+unfoldable pub takes : Taken → Clocks → List Occurrence → Occurrence → Bool
+takes latest clocks candidates w = not (any (λ c. isBefore clocks w c) candidates)
+takes earliest clocks candidates w = not (any (λ c. isBefore clocks c w) candidates)
+takes every clocks candidates w = true
 
 -- the marks of those taken
-unfoldable pub takenOf : Taken → ℕ → List Occurrence → List Bool → List Bool
-takenOf t ratio waiting candidates = padded 16 (zipWith (λ w c. c && takes t ratio (marked waiting candidates) w) waiting candidates)
+unfoldable pub takenOf : Taken → Clocks → List Occurrence → List Bool → List Bool
+takenOf t clocks waiting candidates = padded 16 (zipWith (λ w c. c && takes t clocks (marked waiting candidates) w) waiting candidates)
 
 -- a place is removed, by whether it is a candidate and is taken: a candidate not taken; one taken; every candidate
 unfoldable pub removes : Removed → Bool → Bool → Bool
@@ -42,8 +43,8 @@ pub record Chosen : Type 0 where
   pub taken : List Bool
   pub removed : List Bool
 
-unfoldable pub chosen : Context → ℕ → List Occurrence → List Bool → Chosen
-chosen row ratio waiting candidates = record {
-  taken = takenOf (row .takes) ratio waiting candidates;
-  removed = removedOf (row .removes) candidates (takenOf (row .takes) ratio waiting candidates);
+unfoldable pub chosen : Context → Clocks → List Occurrence → List Bool → Chosen
+chosen row clocks waiting candidates = record {
+  taken = takenOf (row .takes) clocks waiting candidates;
+  removed = removedOf (row .removes) candidates (takenOf (row .takes) clocks waiting candidates);
 }

@@ -3,17 +3,18 @@ use mathlib.Core.Bool.{Bool, false}
 use mathlib.Core.List.{List, []}
 use Prim.Native.Nat.{ℕ, _<_}
 use lib.ListN.{getD}
+use Rattle.timestamps.specs.Order.{Clocks}
 use Rattle.occurrences.specs.declared.Occurrence.{Occurrence}
 use Rattle.occurrences.specs.Occurrences.{isBefore}
 use Rattle.occurrences.specs.Steps.{LowestOf}
 use Rattle.contexts.specs.Table.{Taken, latest, earliest, every}
 
 -- candidate c keeps w from being taken
-unfoldable pub barsOf : Taken → ℕ → Occurrence → Occurrence → Bool
-barsOf latest ratio w c = isBefore ratio w c
-barsOf earliest ratio w c = isBefore ratio c w
-barsOf every ratio w c = false
+unfoldable pub barsOf : Taken → Clocks → Occurrence → Occurrence → Bool
+barsOf latest clocks w c = isBefore clocks w c
+barsOf earliest clocks w c = isBefore clocks c w
+barsOf every clocks w c = false
 
--- the earliest timestamp of each of the first n
+-- the lowest global tick of each of the first n
 abbrev pub Lows : List ℕ → List (List ℕ) → ℕ → List ℕ → Type 0
-Lows ticks list n lows = (i : ℕ) → i < n → LowestOf ticks (getD list i []) (getD lows i 0)
+Lows globals list n lows = (i : ℕ) → i < n → LowestOf globals (getD list i []) (getD lows i 0)

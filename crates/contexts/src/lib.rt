@@ -1,17 +1,20 @@
 // What each context takes, makes and removes: document 01's table of four rows, the choice, and what is made of those taken.
-ghost use mathlib.Core.Bool.{_&&_, false, true};
+use occurrences::Packed;
+use timestamps::GlobalTick;
+ghost use mathlib.Core.Bool.{_&&_, false, not, true};
 ghost use mathlib.Core.List.{List, []};
 ghost use mathlib.Core.Path.{_≡_};
 ghost use Prim.Native.Nat.{ℕ, min, _<_, _≤_};
-ghost use lib.ListN.{getD, length};
+ghost use lib.Dec.{eqb};
+ghost use lib.ListN.{getD, length, take};
 ghost use Rattle.sequences.specs.Loops.{fold};
 ghost use Rattle.sequences.specs.Marks.{marked};
 ghost use Rattle.sequences.specs.Select.{any};
 ghost use Rattle.occurrences.specs.declared.Occurrence.{Occurrence};
 ghost use Rattle.occurrences.specs.Combination.{combinedOf};
-ghost use Rattle.occurrences.specs.Occurrences.{isBefore};
-ghost use Rattle.occurrences.specs.Packed.{held, occurrenceOf};
-ghost use Rattle.occurrences.specs.Steps.{LowestOf};
+ghost use Rattle.occurrences.specs.Occurrences.{blank, isBefore};
+ghost use Rattle.occurrences.specs.Packed.{Arrives, Holds, Known, Notes, Stands, Within};
+ghost use Rattle.occurrences.specs.Steps.{Decided, Inside, LowestOf};
 ghost use Rattle.waiting_lists.specs.Marks.{marksOf};
 ghost use Rattle.contexts.specs.Choice.{andCandidates, chosen, removedOf, seqCandidates, takenOf, takes};
 ghost use Rattle.contexts.specs.Steps.{Lows, barsOf};
@@ -96,43 +99,48 @@ pub fn row_of(context: u64) -> Row
 
 // ---- candidates
 
-// Whether the first is before the second; beside each its earliest timestamp, which mostly decides it.
+// Whether the first is before the second; beside each its lowest global tick, which mostly decides it.
 fn comes_before(
-    low: u64,
-    first: u64,
-    a: &[u64; 3],
-    b: &[u64; 3],
-    ticks: &[u64; 256],
-    ratio: u64,
+    low: GlobalTick,
+    first: GlobalTick,
+    a: &Packed,
+    b: &Packed,
+    ticks: &[u64],
+    globals: &[u64],
 ) -> bool
-    requires { ⌜ LowestOf (now ticks) (now a) low × LowestOf (now ticks) (now b) first ⌝ }
-    ensures { λ r. ⌜ r ≡ isBefore ratio (occurrenceOf (now (ticks .entry)) (now (a .entry))) (occurrenceOf (now (ticks .entry)) (now (b .entry))) ⌝ }
+    requires { ⌜ Within (now ticks) (now globals) (now a) × Within (now ticks) (now globals) (now b) ⌝ }
+    ensures { λ r. ⌜ ((t : Notes (now (ticks .entry)) (now (globals .entry))) (x y : Occurrence)
+        → LowestOf (now (globals .entry)) (now (a .entry)) (low .0) → LowestOf (now (globals .entry)) (now (b .entry)) (first .0)
+        → Stands t (now (a .entry)) x → Stands t (now (b .entry)) y
+        → r ≡ isBefore (t .clocks) x y) ⌝ }
 {
-    let d = occurrences::decided(low, first, ratio);
+    let d = occurrences::decided(low, first);
     if d < 2 {
         return d == 1;
     }
-    occurrences::before(low, a, b, ticks, ratio)
+    occurrences::before(low, a, b, ticks, globals)
 }
 
 // SEQ: those whose timestamp is before the arrival's.
 pub fn before_arrival(
-    list: &[[u64; 3]; 16],
+    list: &[Packed; 16],
     waiting: usize,
-    o: &[u64; 3],
-    ticks: &[u64; 256],
-    ratio: u64,
+    o: &Packed,
+    ticks: &[u64],
+    globals: &[u64],
 ) -> u64
-    requires { ⌜ getD (now ticks) 0 0 ≡ 0 ⌝ }
-    ensures { λ r. ⌜ marksOf r ≡ seqCandidates ratio (held (now (ticks .entry)) (now (list .entry)) waiting) (occurrenceOf (now (ticks .entry)) (now (o .entry))) ⌝ }
+    requires { ⌜ Arrives (now ticks) (now globals) (now list) waiting (now o) ⌝ }
+    ensures { λ r. ⌜ ((t : Notes (now (ticks .entry)) (now (globals .entry))) (l : List Occurrence) (x : Occurrence)
+        → Holds t (now (list .entry)) waiting l → Stands t (now (o .entry)) x
+        → marksOf r ≡ seqCandidates (t .clocks) l x) ⌝ }
 {
-    let first = occurrences::lowest(o, ticks);
+    let first = occurrences::lowest(o, globals);
     let n = waiting_lists::count_in(list, waiting);
     let mut marks: u64 = 0;
     let mut i: usize = 0;
     while i < n {
-        let low = occurrences::lowest(&list[i], ticks);
-        let is = comes_before(low, first, &list[i], o, ticks, ratio);
+        let low = occurrences::lowest(&list[i], globals);
+        let is = comes_before(low, first, &list[i], o, ticks, globals);
         marks = waiting_lists::with_mark(marks, i, is);
         i = i + 1;
     }
@@ -155,105 +163,128 @@ pub struct Choice {
     pub removed: u64,
 }
 
-// The earliest timestamp of each of the first n, filled in: an array handed back by value would be copied.
-fn lows_of(list: &[[u64; 3]; 16], n: usize, ticks: &[u64; 256], lows: &mut [u64; 16])
-    requires { ⌜ (n ≤ 16) × (getD (now ticks) 0 0 ≡ 0) ⌝ }
-    ensures { λ _. ⌜ Lows (now (ticks .entry)) (now (list .entry)) n (now (lows .exit)) ⌝ }
+// The lowest global tick of each of the first n, filled in: an array handed back by value would be copied.
+fn lows_of(list: &[Packed; 16], n: usize, globals: &[u64], lows: &mut [u64; 16])
+    requires { ⌜ (n ≤ 16) × ((i : ℕ) → i < n → Inside 8 (now globals) (getD (getD (now list) i []) 2 0)) ⌝ }
+    ensures { λ _. ⌜ (getD (now (globals .entry)) 0 0 ≡ 0 → Lows (now (globals .entry)) (now (list .entry)) n (now (lows .exit))) ⌝ }
 {
     let places = lows[..].len();
     let mut i: usize = 0;
     while i < n {
-        lows[i] = occurrences::lowest(&list[i], ticks);
+        let low = occurrences::lowest(&list[i], globals);
+        lows[i] = low.0;
         i = i + 1;
     }
 }
 
-// Whether c keeps w from being taken, place by place; beside each its earliest timestamp.
+// Whether c keeps w from being taken, place by place; beside each its lowest global tick.
 fn bars_by_place(
     rule: u8,
-    low: u64,
-    w: &[u64; 3],
-    other: u64,
-    c: &[u64; 3],
-    ticks: &[u64; 256],
-    ratio: u64,
+    low: GlobalTick,
+    w: &Packed,
+    other: GlobalTick,
+    c: &Packed,
+    ticks: &[u64],
+    globals: &[u64],
 ) -> bool
-    requires { ⌜ LowestOf (now ticks) (now w) low × LowestOf (now ticks) (now c) other ⌝ }
-    ensures { λ r. ⌜ r ≡ barsOf (takesOf rule) ratio (occurrenceOf (now (ticks .entry)) (now (w .entry))) (occurrenceOf (now (ticks .entry)) (now (c .entry))) ⌝ }
+    requires { ⌜ Within (now ticks) (now globals) (now w) × Within (now ticks) (now globals) (now c) ⌝ }
+    ensures { λ r. ⌜ ((t : Notes (now (ticks .entry)) (now (globals .entry))) (x y : Occurrence)
+        → LowestOf (now (globals .entry)) (now (w .entry)) (low .0) → LowestOf (now (globals .entry)) (now (c .entry)) (other .0)
+        → Stands t (now (w .entry)) x → Stands t (now (c .entry)) y
+        → r ≡ barsOf (takesOf rule) (t .clocks) x y) ⌝ }
 {
     if rule == Row::LATEST {
-        occurrences::before(low, w, c, ticks, ratio)
+        occurrences::before(low, w, c, ticks, globals)
     } else if rule == Row::EARLIEST {
-        occurrences::before(other, c, w, ticks, ratio)
+        occurrences::before(other, c, w, ticks, globals)
     } else {
         false
     }
 }
 
-// Whether their earliest timestamps decide it: 1 where c keeps w from being taken, 0 where it does not, 2 where every place has to be looked at.
-fn bars_decided(rule: u8, low: u64, other: u64, ratio: u64) -> u8
-    ensures { λ r. ⌜ ((ticks w c : List ℕ) → LowestOf ticks w low → LowestOf ticks c other → (r ≡ 0 → barsOf (takesOf rule) ratio (occurrenceOf ticks w) (occurrenceOf ticks c) ≡ false) × (r ≡ 1 → barsOf (takesOf rule) ratio (occurrenceOf ticks w) (occurrenceOf ticks c) ≡ true)) ⌝ }
+// Whether their lowest global ticks decide it: 1 where c keeps w from being taken, 0 where it does not, 2 where every place has to be looked at.
+fn bars_decided(rule: u8, low: GlobalTick, other: GlobalTick) -> u8
+    ensures { λ r. ⌜ ((ticks globals w c : List ℕ) (t : Notes ticks globals) (x y : Occurrence) → Stands t w x → Stands t c y
+        → LowestOf globals w (low .0) → LowestOf globals c (other .0)
+        → Decided (barsOf (takesOf rule) (t .clocks) x y) r) ⌝ }
 {
     if rule == Row::LATEST {
-        occurrences::decided(low, other, ratio)
+        occurrences::decided(low, other)
     } else if rule == Row::EARLIEST {
-        occurrences::decided(other, low, ratio)
+        occurrences::decided(other, low)
     } else {
         0
     }
 }
 
-// Whether c, where it is a candidate, keeps w from being taken; beside each its earliest timestamp.
+// Whether c, where it is another candidate, keeps w from being taken; beside each its lowest global tick.
 fn bars(
-    mark: bool,
+    is: bool,
     rule: u8,
-    low: u64,
-    w: &[u64; 3],
-    other: u64,
-    c: &[u64; 3],
-    ticks: &[u64; 256],
-    ratio: u64,
+    low: GlobalTick,
+    w: &Packed,
+    other: GlobalTick,
+    c: &Packed,
+    ticks: &[u64],
+    globals: &[u64],
 ) -> bool
-    requires { ⌜ LowestOf (now ticks) (now w) low × LowestOf (now ticks) (now c) other ⌝ }
-    ensures { λ r. ⌜ r ≡ (mark && barsOf (takesOf rule) ratio (occurrenceOf (now (ticks .entry)) (now (w .entry))) (occurrenceOf (now (ticks .entry)) (now (c .entry)))) ⌝ }
+    requires { ⌜ Within (now ticks) (now globals) (now w) × Within (now ticks) (now globals) (now c) ⌝ }
+    ensures { λ r. ⌜ ((t : Notes (now (ticks .entry)) (now (globals .entry))) (x y : Occurrence)
+        → LowestOf (now (globals .entry)) (now (w .entry)) (low .0) → LowestOf (now (globals .entry)) (now (c .entry)) (other .0)
+        → Stands t (now (w .entry)) x → Stands t (now (c .entry)) y
+        → r ≡ (is && barsOf (takesOf rule) (t .clocks) x y)) ⌝ }
 {
-    if !mark {
+    if !is {
         return false;
     }
-    let d = bars_decided(rule, low, other, ratio);
+    let d = bars_decided(rule, low, other);
     if d < 2 {
         return d == 1;
     }
-    bars_by_place(rule, low, w, other, c, ticks, ratio)
+    bars_by_place(rule, low, w, other, c, ticks, globals)
 }
 
-// Whether some candidate keeps the one at place i from being taken.
+// Whether there is a candidate at place j, and another one than that at place i.
+fn is_other(candidates: u64, i: usize, j: usize) -> bool
+    requires { ⌜ j < 16 ⌝ }
+    ensures { λ r. ⌜ r ≡ (not (eqb i j) && getD (marksOf candidates) j false) ⌝ }
+{
+    if i == j {
+        false
+    } else {
+        waiting_lists::is_marked(candidates, j)
+    }
+}
+
+// Whether some other candidate keeps the one at place i from being taken.
 fn barred(
     rule: u8,
     i: usize,
-    list: &[[u64; 3]; 16],
+    list: &[Packed; 16],
     lows: &[u64; 16],
     waiting: usize,
     candidates: u64,
-    ticks: &[u64; 256],
-    ratio: u64,
+    ticks: &[u64],
+    globals: &[u64],
 ) -> bool
-    requires { ⌜ (i < length (held (now ticks) (now list) waiting)) × Lows (now ticks) (now list) (length (held (now ticks) (now list) waiting)) (now lows) ⌝ }
-    ensures { λ r. ⌜ r ≡ any (barsOf (takesOf rule) ratio (occurrenceOf (now (ticks .entry)) (getD (now (list .entry)) i []))) (marked (held (now (ticks .entry)) (now (list .entry)) waiting) (marksOf candidates)) ⌝ }
+    requires { ⌜ (i < length (take waiting (now list))) × Known (now ticks) (now globals) (now list) waiting ⌝ }
+    ensures { λ r. ⌜ ((t : Notes (now (ticks .entry)) (now (globals .entry))) (l : List Occurrence)
+        → Holds t (now (list .entry)) waiting l → Lows (now (globals .entry)) (now (list .entry)) (length l) (now (lows .entry))
+        → r ≡ any (barsOf (takesOf rule) (t .clocks) (getD l i blank)) (marked l (marksOf candidates))) ⌝ }
 {
     let n = waiting_lists::count_in(list, waiting);
-    let low = lows[i];
+    let low = GlobalTick(lows[i]);
     let mut j: usize = 0;
     while j < n {
         if bars(
-            waiting_lists::is_marked(candidates, j),
+            is_other(candidates, i, j),
             rule,
             low,
             &list[i],
-            lows[j],
+            GlobalTick(lows[j]),
             &list[j],
             ticks,
-            ratio,
+            globals,
         ) {
             return true;
         }
@@ -264,50 +295,53 @@ fn barred(
 
 // Whether the one at place i, where it is a candidate, is taken.
 fn is_taken(
-    mark: bool,
+    is: bool,
     rule: u8,
     i: usize,
-    list: &[[u64; 3]; 16],
+    list: &[Packed; 16],
     lows: &[u64; 16],
     waiting: usize,
     candidates: u64,
-    ticks: &[u64; 256],
-    ratio: u64,
+    ticks: &[u64],
+    globals: &[u64],
 ) -> bool
-    requires { ⌜ (i < length (held (now ticks) (now list) waiting)) × Lows (now ticks) (now list) (length (held (now ticks) (now list) waiting)) (now lows) ⌝ }
-    ensures { λ r. ⌜ r ≡ (mark && takes (takesOf rule) ratio (marked (held (now (ticks .entry)) (now (list .entry)) waiting) (marksOf candidates)) (occurrenceOf (now (ticks .entry)) (getD (now (list .entry)) i []))) ⌝ }
+    requires { ⌜ (i < length (take waiting (now list))) × Known (now ticks) (now globals) (now list) waiting ⌝ }
+    ensures { λ r. ⌜ ((t : Notes (now (ticks .entry)) (now (globals .entry))) (l : List Occurrence)
+        → Holds t (now (list .entry)) waiting l → Lows (now (globals .entry)) (now (list .entry)) (length l) (now (lows .entry))
+        → r ≡ (is && takes (takesOf rule) (t .clocks) (marked l (marksOf candidates)) (getD l i blank))) ⌝ }
 {
-    if !mark {
+    if !is {
         false
     } else {
-        !barred(rule, i, list, lows, waiting, candidates, ticks, ratio)
+        !barred(rule, i, list, lows, waiting, candidates, ticks, globals)
     }
 }
 
 // Those that a rule takes of the candidates.
 fn taken_by(
     rule: u8,
-    list: &[[u64; 3]; 16],
+    list: &[Packed; 16],
     waiting: usize,
     candidates: u64,
-    ticks: &[u64; 256],
-    ratio: u64,
+    ticks: &[u64],
+    globals: &[u64],
 ) -> u64
-    requires { ⌜ getD (now ticks) 0 0 ≡ 0 ⌝ }
-    ensures { λ r. ⌜ marksOf r ≡ takenOf (takesOf rule) ratio (held (now (ticks .entry)) (now (list .entry)) waiting) (marksOf candidates) ⌝ }
+    requires { ⌜ Known (now ticks) (now globals) (now list) waiting ⌝ }
+    ensures { λ r. ⌜ ((t : Notes (now (ticks .entry)) (now (globals .entry))) (l : List Occurrence) → Holds t (now (list .entry)) waiting l
+        → marksOf r ≡ takenOf (takesOf rule) (t .clocks) l (marksOf candidates)) ⌝ }
 {
     let n = waiting_lists::count_in(list, waiting);
     if Row::EVERY <= rule {
         return candidates & all_waiting(n);
     }
     let mut lows = [0u64; 16];
-    lows_of(list, n, ticks, &mut lows);
+    lows_of(list, n, globals, &mut lows);
     let mut marks: u64 = 0;
     let mut i: usize = 0;
     while i < n {
-        let mark = waiting_lists::is_marked(candidates, i);
+        let is = waiting_lists::is_marked(candidates, i);
         let taken = is_taken(
-            mark,
+            is,
             rule,
             i,
             list,
@@ -315,7 +349,7 @@ fn taken_by(
             waiting,
             candidates,
             ticks,
-            ratio,
+            globals,
         );
         marks = waiting_lists::with_mark(marks, i, taken);
         i = i + 1;
@@ -339,17 +373,19 @@ fn removed_by(rule: u8, candidates: u64, taken: u64) -> u64
 // What a context takes and removes of the candidates of a waiting list.
 pub fn choose(
     context: u64,
-    list: &[[u64; 3]; 16],
+    list: &[Packed; 16],
     waiting: usize,
     candidates: u64,
-    ticks: &[u64; 256],
-    ratio: u64,
+    ticks: &[u64],
+    globals: &[u64],
 ) -> Choice
-    requires { ⌜ getD (now ticks) 0 0 ≡ 0 ⌝ }
-    ensures { λ r. ⌜ (marksOf (r .taken) ≡ chosen (rowOf context) ratio (held (now (ticks .entry)) (now (list .entry)) waiting) (marksOf candidates) .taken) × (marksOf (r .removed) ≡ chosen (rowOf context) ratio (held (now (ticks .entry)) (now (list .entry)) waiting) (marksOf candidates) .removed) ⌝ }
+    requires { ⌜ Known (now ticks) (now globals) (now list) waiting ⌝ }
+    ensures { λ r. ⌜ ((t : Notes (now (ticks .entry)) (now (globals .entry))) (l : List Occurrence) → Holds t (now (list .entry)) waiting l
+        → (marksOf (r .taken) ≡ chosen (rowOf context) (t .clocks) l (marksOf candidates) .taken)
+        × (marksOf (r .removed) ≡ chosen (rowOf context) (t .clocks) l (marksOf candidates) .removed)) ⌝ }
 {
     let row = row_of(context);
-    let taken = taken_by(row.taken, list, waiting, candidates, ticks, ratio);
+    let taken = taken_by(row.taken, list, waiting, candidates, ticks, globals);
     let removed = removed_by(row.removed, candidates, taken);
     Choice {
         taken: taken,
@@ -369,15 +405,17 @@ pub fn makes_each(context: u64) -> bool
 
 // The arrival combined with all taken, in waiting order.
 pub fn all_combined(
-    list: &[[u64; 3]; 16],
+    list: &[Packed; 16],
     waiting: usize,
     taken: u64,
-    o: &[u64; 3],
-    ticks: &[u64; 256],
-    ratio: u64,
-) -> [u64; 3]
-    requires { ⌜ getD (now ticks) 0 0 ≡ 0 ⌝ }
-    ensures { λ r. ⌜ occurrenceOf (now (ticks .entry)) r ≡ fold (combinedOf ratio) (marked (held (now (ticks .entry)) (now (list .entry)) waiting) (marksOf taken)) (occurrenceOf (now (ticks .entry)) (now (o .entry))) ⌝ }
+    o: &Packed,
+    ticks: &[u64],
+    globals: &[u64],
+) -> Packed
+    requires { ⌜ Arrives (now ticks) (now globals) (now list) waiting (now o) ⌝ }
+    ensures { λ r. ⌜ ((t : Notes (now (ticks .entry)) (now (globals .entry))) (l : List Occurrence) (x : Occurrence)
+        → Holds t (now (list .entry)) waiting l → Stands t (now (o .entry)) x
+        → Stands t r (fold (combinedOf (t .clocks)) (marked l (marksOf taken)) x)) ⌝ }
 {
     let n = waiting_lists::count_in(list, waiting);
     let mut all = *o;
@@ -385,7 +423,7 @@ pub fn all_combined(
     while i < n {
         let next = i + 1;
         if waiting_lists::is_marked(taken, i) {
-            all = occurrences::combined(&all, &list[i], ticks, ratio);
+            all = occurrences::combined(&all, &list[i], ticks, globals);
         }
         i = next;
     }

@@ -1,11 +1,15 @@
 -- The lowest byte of a number that is not 0: its place by the trailing zeros, and the number without it.
+use mathlib.Core.List.{List}
 use mathlib.Core.Path.{_≡_, sym, ap, _∙_}
 use Prim.Native.Nat.{ℕ, zero, suc, _+_, _-_, _*_, _/_, _%_, _^_, _≤_, _<_}
 use native.Mathlib.Decide.{decLt}
 use native.Mathlib.Nat.{div-one, mul-assoc, mul-le-mul-right, zero-add, suc-add}
 use native.Mathlib.Omega.{arith}
 use lib.Count.{trailingZeros}
+use lib.ListN.{length}
 use lib.Pow.{field, mod-mod-pow, mod-pow-add, pow-add, pow-pos, shl-exact, shr-lt, shr-shr, split}
+use Rattle.occurrences.specs.Packed.{byteAt}
+use Rattle.occurrences.specs.Steps.{Inside}
 
 -- ---- the zeros of a number and of what lies above its lowest e bits
 zeros-above : (e d n : ℕ) → n % 2 ^ e ≡ 0 → trailingZeros (e + d) n ≡ e + trailingZeros d (n / 2 ^ e)
@@ -68,6 +72,13 @@ module _ (n i : ℕ) where
 pub without-first : (n : ℕ) → without n 0 ≡ n / 256 * 256
 without-first n = rw div-one (omega arith)
 
+-- where no byte of m is more than the one of n that lies one place up, none of m * 256 is more than that of n
+bytes-up : (m n : ℕ) → ((k : ℕ) → byteOf m k ≤ byteOf (n / 256) k) → (k : ℕ) → byteOf (m * 256) k ≤ byteOf n k
+bytes-up m n h zero = rw (div-one (m * 256)) (omega arith)
+bytes-up m n h (suc k) =
+    let e : m * 256 / 256 ≡ m = omega arith in
+    rw (byte-up (m * 256) k, byte-up n k, e) (h k)
+
 -- ---- its place, where d bytes hold the number: what holds of the lowest byte, and of a place where it holds one further down, holds there
 module _ (P : ℕ → ℕ → ℕ → Type 0) (first : (d n : ℕ) → 0 < n % 256 → P (suc d) n 0) (later : (d n i : ℕ) → n % 256 ≡ 0 → P d (n / 256) i → P (suc d) n (suc i)) where
   pub lowest-byte : (d n : ℕ) → 0 < n → n < 2 ^ (8 * d) → P d n (trailingZeros (8 * d) n / 8)
@@ -109,3 +120,21 @@ module _ (n : ℕ) (p : 0 < n) (h : n < 2 ^ 64) where
 
   pub lowest-fewer : n - lowest < n
   lowest-fewer = omega (arith, lowest-without, without-less n lowestPlace lowest-some)
+
+  -- each other byte stays, so what the bytes name stays in a table
+  lowest-bytes : (k : ℕ) → byteOf (n - lowest) k ≤ byteOf n k
+  lowest-bytes k =
+      rw lowest-without
+      (lowest-byte (λ d m j. (k : ℕ) → byteOf (without m j) k ≤ byteOf m k)
+      (λ d m l k. rw (without-first m) (bytes-up (m / 256) m (λ i. omega arith) k))
+      (λ d m i e l k. rw (without-up m i e) (bytes-up (without (m / 256) i) m l k))
+      8 n p h k)
+
+  module _ (table : List ℕ) (inside : Inside 8 table n) where
+    pub lowest-named : byteOf n lowestPlace < length table
+    unfolding byteAt
+    lowest-named = inside lowestPlace lowest-place
+
+    pub lowest-inside : Inside 8 table (n - lowest)
+    unfolding byteAt
+    lowest-inside k l = omega (arith, inside k l, lowest-bytes k)

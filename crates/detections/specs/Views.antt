@@ -7,8 +7,9 @@ use Rattle.timestamps.specs.declared.CompositeTimestamp.{CompositeTimestamp}
 use Rattle.timestamps.specs.Composite.{members}
 use Rattle.event_sets.specs.declared.EventSet.{EventSet}
 use Rattle.event_sets.specs.Sets.{elements}
+use Rattle.occurrences.specs.Packed.{occurrenceOf}
 use Rattle.detections.specs.declared.Stamp.{Stamp}
-use Rattle.detections.specs.Findings.{Finding}
+use Rattle.detections.specs.Findings.{Finding, findingBytes}
 
 -- a timestamp as it is written: the number of its logger, under the numbers by place, and its local tick
 abbrev pub written : List ℕ → Timestamp → Stamp
@@ -22,3 +23,12 @@ findingOf loggers node latest events =
       stamps = map (written loggers) (members latest);
       events = elements events;
     }
+
+-- ---- of packed numbers o, beside the table of ticks
+-- their stamps
+abbrev pub writtenStamps : (ticks loggers o : List ℕ) → List Stamp
+writtenStamps ticks loggers o = map (written loggers) (members (occurrenceOf ticks o .latest))
+
+-- the bytes of their finding
+abbrev pub writtenBytes : (ticks loggers : List ℕ) → ℕ → (o : List ℕ) → List ℕ
+writtenBytes ticks loggers node o = findingBytes (findingOf loggers node (occurrenceOf ticks o .latest) (occurrenceOf ticks o .events))

@@ -1,8 +1,9 @@
 // Findings as bytes: how many the finding of an occurrence takes, and writing it where exactly that many fit.
 use event_sets::EventSet;
+use occurrences::Packed;
 use timestamps::LocalTick;
 ghost use mathlib.Core.Path.{_≡_};
-ghost use mathlib.Core.List.{List, map};
+ghost use mathlib.Core.List.{List};
 ghost use Prim.Native.Nat.{ℕ, _+_, _≤_, _<_};
 ghost use lib.Dec.{leb};
 ghost use lib.ListN.{getD, length};
@@ -11,8 +12,9 @@ ghost use Rattle.forms.specs.Forms.{number, each, sectionBytes};
 ghost use Rattle.timestamps.specs.Composite.{members};
 ghost use Rattle.event_sets.specs.Sets.{elements, sizeOf};
 ghost use Rattle.occurrences.specs.Packed.{occurrenceOf};
+ghost use Rattle.occurrences.specs.Steps.{Inside};
 ghost use Rattle.detections.specs.Findings.{Finding, stamp, findingBytes};
-ghost use Rattle.detections.specs.Views.{written, findingOf};
+ghost use Rattle.detections.specs.Views.{writtenBytes, writtenStamps};
 ghost use Rattle.detections.specs.Writing.{Wrote};
 ghost use Rattle.detections.specs.Steps.{bitsFrom, namedBytes, oneIf, stampBytes};
 
@@ -31,7 +33,8 @@ fn one_if(w: u64) -> usize
 }
 
 // How many timestamps an occurrence has.
-pub fn timestamp_count(o: &[u64; 3], ticks: &[u64; 256]) -> usize
+pub fn timestamp_count(o: &Packed, ticks: &[u64]) -> usize
+    requires { ⌜ Inside 8 (now ticks) (getD (now o) 2 0) ⌝ }
     ensures { λ r. ⌜ (r ≡ length (members (occurrenceOf (now (ticks .entry)) (now (o .entry)) .latest))) × (r ≤ 8) ⌝ }
 {
     let mut n: usize = 0;
@@ -44,14 +47,10 @@ pub fn timestamp_count(o: &[u64; 3], ticks: &[u64; 256]) -> usize
 }
 
 // How many events it has.
-pub fn event_count(o: &[u64; 3]) -> usize
+pub fn event_count(o: &Packed) -> usize
     ensures { λ r. ⌜ ((ticks : List ℕ) → r ≡ sizeOf (occurrenceOf ticks (now (o .entry)) .events)) × (r ≤ 128) ⌝ }
 {
-    let events = EventSet {
-        low: o[0],
-        high: o[1],
-    };
-    event_sets::count(events)
+    event_sets::count(occurrences::events_of(o))
 }
 
 // How many bytes a finding with so many timestamps and events takes.
@@ -63,8 +62,10 @@ pub fn size(timestamps: usize, events: usize) -> usize
 }
 
 // Whether the finding of an occurrence fits in so many bytes. The largest, with eight timestamps and 128 events, takes 342.
-pub fn fits(o: &[u64; 3], ticks: &[u64; 256], left: usize) -> bool
-    ensures { λ r. ⌜ ((loggers : List ℕ) (node : ℕ) → r ≡ leb (length (findingBytes (findingOf loggers node (occurrenceOf (now (ticks .entry)) (now (o .entry)) .latest) (occurrenceOf (now (ticks .entry)) (now (o .entry)) .events)))) left) ⌝ }
+pub fn fits(o: &Packed, ticks: &[u64], left: usize) -> bool
+    requires { ⌜ Inside 8 (now ticks) (getD (now o) 2 0) ⌝ }
+    ensures { λ r. ⌜ ((loggers : List ℕ) (node : ℕ)
+        → r ≡ leb (length (writtenBytes (now (ticks .entry)) loggers node (now (o .entry)))) left) ⌝ }
 {
     if 342 <= left {
         return true;
@@ -102,8 +103,8 @@ fn put_u64(out: &mut [u8], at: usize, v: u64) -> usize
 }
 
 // The stamp of an event, where the table has its tick. The tick is read when the logger is written: then each is one store.
-fn put_stamp(out: &mut [u8], at: usize, logger: u64, event: usize, ticks: &[u64; 256]) -> usize
-    requires { ⌜ (event < 256) × (at + length (stampBytes logger (getD (now ticks) event 0)) ≤ length (now out)) ⌝ }
+fn put_stamp(out: &mut [u8], at: usize, logger: u64, event: usize, ticks: &[u64]) -> usize
+    requires { ⌜ (event < length (now ticks)) × (at + length (stampBytes logger (getD (now ticks) event 0)) ≤ length (now out)) ⌝ }
     ensures { λ r. ⌜ Wrote (now (out .entry)) at (stampBytes logger (getD (now (ticks .entry)) event 0)) r (now (out .exit)) ⌝ }
 {
     if 0 < ticks[event] {
@@ -115,14 +116,9 @@ fn put_stamp(out: &mut [u8], at: usize, logger: u64, event: usize, ticks: &[u64;
 }
 
 // The stamps of the events that the bytes of a packed number name, from the lowest byte on.
-fn put_named(
-    out: &mut [u8],
-    at: usize,
-    packed: u64,
-    ticks: &[u64; 256],
-    loggers: &[u64; 8],
-) -> usize
-    requires { ⌜ (getD (now ticks) 0 0 ≡ 0) × (at + length (namedBytes (now ticks) (now loggers) 8 0 packed) ≤ length (now out)) ⌝ }
+fn put_named(out: &mut [u8], at: usize, packed: u64, ticks: &[u64], loggers: &[u64; 8]) -> usize
+    requires { ⌜ Inside 8 (now ticks) packed × (getD (now ticks) 0 0 ≡ 0)
+        × (at + length (namedBytes (now ticks) (now loggers) 8 0 packed) ≤ length (now out)) ⌝ }
     ensures { λ r. ⌜ Wrote (now (out .entry)) at (namedBytes (now (ticks .entry)) (now (loggers .entry)) 8 0 packed) r (now (out .exit)) ⌝ }
 {
     let mut to = at;
@@ -138,15 +134,11 @@ fn put_named(
 }
 
 // The stamps, by rising logger.
-fn put_stamps(
-    out: &mut [u8],
-    at: usize,
-    o: &[u64; 3],
-    ticks: &[u64; 256],
-    loggers: &[u64; 8],
-) -> usize
-    requires { ⌜ (getD (now ticks) 0 0 ≡ 0) × (at + length (each stamp (map (written (now loggers)) (members (occurrenceOf (now ticks) (now o) .latest)))) ≤ length (now out)) ⌝ }
-    ensures { λ r. ⌜ Wrote (now (out .entry)) at (each stamp (map (written (now (loggers .entry))) (members (occurrenceOf (now (ticks .entry)) (now (o .entry)) .latest)))) r (now (out .exit)) ⌝ }
+fn put_stamps(out: &mut [u8], at: usize, o: &Packed, ticks: &[u64], loggers: &[u64; 8]) -> usize
+    requires { ⌜ Inside 8 (now ticks) (getD (now o) 2 0) × (getD (now ticks) 0 0 ≡ 0)
+        × (at + length (each stamp (writtenStamps (now ticks) (now loggers) (now o))) ≤ length (now out)) ⌝ }
+    ensures { λ r. ⌜ Wrote (now (out .entry)) at (each stamp (writtenStamps (now (ticks .entry)) (now (loggers .entry)) (now (o .entry))))
+        r (now (out .exit)) ⌝ }
 {
     put_named(out, at, o[2], ticks, loggers)
 }
@@ -155,12 +147,14 @@ fn put_stamps(
 fn put_stamp_section(
     out: &mut [u8],
     at: usize,
-    o: &[u64; 3],
-    ticks: &[u64; 256],
+    o: &Packed,
+    ticks: &[u64],
     loggers: &[u64; 8],
 ) -> usize
-    requires { ⌜ (getD (now ticks) 0 0 ≡ 0) × (at + length (sectionBytes stamp (map (written (now loggers)) (members (occurrenceOf (now ticks) (now o) .latest)))) ≤ length (now out)) ⌝ }
-    ensures { λ r. ⌜ Wrote (now (out .entry)) at (sectionBytes stamp (map (written (now (loggers .entry))) (members (occurrenceOf (now (ticks .entry)) (now (o .entry)) .latest)))) r (now (out .exit)) ⌝ }
+    requires { ⌜ Inside 8 (now ticks) (getD (now o) 2 0) × (getD (now ticks) 0 0 ≡ 0)
+        × (at + length (sectionBytes stamp (writtenStamps (now ticks) (now loggers) (now o))) ≤ length (now out)) ⌝ }
+    ensures { λ r. ⌜ Wrote (now (out .entry)) at (sectionBytes stamp (writtenStamps (now (ticks .entry)) (now (loggers .entry)) (now (o .entry))))
+        r (now (out .exit)) ⌝ }
 {
     let from = at + 2;
     let to = put_stamps(out, from, o, ticks, loggers);
@@ -208,17 +202,15 @@ pub fn write(
     out: &mut [u8],
     at: usize,
     node: u64,
-    o: &[u64; 3],
-    ticks: &[u64; 256],
+    o: &Packed,
+    ticks: &[u64],
     loggers: &[u64; 8],
 ) -> usize
-    requires { ⌜ (getD (now ticks) 0 0 ≡ 0) × (at + length (findingBytes (findingOf (now loggers) node (occurrenceOf (now ticks) (now o) .latest) (occurrenceOf (now ticks) (now o) .events))) ≤ length (now out)) ⌝ }
-    ensures { λ r. ⌜ Wrote (now (out .entry)) at (findingBytes (findingOf (now (loggers .entry)) node (occurrenceOf (now (ticks .entry)) (now (o .entry)) .latest) (occurrenceOf (now (ticks .entry)) (now (o .entry)) .events))) r (now (out .exit)) ⌝ }
+    requires { ⌜ Inside 8 (now ticks) (getD (now o) 2 0) × (getD (now ticks) 0 0 ≡ 0)
+        × (at + length (writtenBytes (now ticks) (now loggers) node (now o)) ≤ length (now out)) ⌝ }
+    ensures { λ r. ⌜ Wrote (now (out .entry)) at (writtenBytes (now (ticks .entry)) (now (loggers .entry)) node (now (o .entry))) r (now (out .exit)) ⌝ }
 {
-    let numbers = EventSet {
-        low: o[0],
-        high: o[1],
-    };
+    let numbers = occurrences::events_of(o);
     let a = put_u16(out, at, node);
     let b = put_stamp_section(out, a, o, ticks, loggers);
     put_event_section(out, b, numbers)

@@ -1,6 +1,7 @@
 -- Document 01, "How an event is worked" and 31 to 33: what a node makes goes to the output and to later nodes.
 use mathlib.Core.Bool.{Bool}
 use mathlib.Core.List.{List, [], _∷_, _++_}
+use mathlib.Core.Path.{_≡_}
 use Prim.Native.Nat.{ℕ, _+_}
 use lib.Dec.{leb, ltb}
 use lib.ListN.{length, take}
@@ -9,7 +10,7 @@ use Rattle.sequences.specs.Loops.{fold}
 use Rattle.detections.specs.Findings.{findingBytes}
 use Rattle.detections.specs.Views.{findingOf}
 use Rattle.occurrences.specs.declared.Occurrence.{Occurrence}
-use Rattle.occurrences.specs.Packed.{held}
+use Rattle.occurrences.specs.Packed.{Holds, Notes}
 use Rattle.emissions.specs.declared.Emit.{Emit}
 use Rattle.emissions.specs.declared.Limit.{Limit}
 use Rattle.emissions.specs.declared.Limit.the-variants.{None, ListFull, NodeFull, OutputFull}
@@ -58,6 +59,9 @@ emitted room loggers place e o =
 unfoldable pub emittedAll : ℕ → List ℕ → ℕ → Emitting → List Occurrence → Emitting
 emittedAll room loggers place e l = fold (emitted room loggers place) l e
 
--- ---- what the code's values stand for: e and the row of what the node made, beside the output and the table of ticks
-abbrev pub emitOf : List ℕ → Emit → List (List ℕ) → List ℕ → Emitting
-emitOf ticks e made out = record { made = held ticks made (e .made); findings = e .findings; bytes = take (e .at) out; limit = e .limit }
+-- ---- what the code's values stand for: e, beside the row of what the node made and the output
+pub record Emits {ticks globals : List ℕ} (t : Notes ticks globals) (e : Emit) (row : List (List ℕ)) (out : List ℕ) (s : Emitting) : Type 0 where
+  pub made : Holds t row (e .made) (s .made)
+  pub findings : s .findings ≡ e .findings
+  pub bytes : s .bytes ≡ take (e .at) out
+  pub limit : s .limit ≡ e .limit

@@ -1,10 +1,14 @@
 // What a node makes from one event: findings to the output and to later nodes, until a limit ends the work.
+use occurrences::Packed;
+ghost use mathlib.Core.List.{List};
 ghost use mathlib.Core.Path.{_≡_};
-ghost use Prim.Native.Nat.{_≤_};
+ghost use Prim.Native.Nat.{ℕ, _≤_};
 ghost use lib.ListN.{getD, length};
 ghost use Rattle.detections.specs.Writing.{Beyond};
-ghost use Rattle.occurrences.specs.Packed.{occurrenceOf};
-ghost use Rattle.emissions.specs.Emissions.{emitOf, emitted, numberOf, reached};
+ghost use Rattle.occurrences.specs.declared.Occurrence.{Occurrence};
+ghost use Rattle.occurrences.specs.Packed.{Notes, Stands};
+ghost use Rattle.occurrences.specs.Steps.{Inside};
+ghost use Rattle.emissions.specs.Emissions.{Emits, Emitting, emitted, numberOf, reached};
 
 // What ends the work on the way; document 01's numbers 31 to 33 (specs/Emissions.antt, numberOf).
 pub enum Limit {
@@ -14,8 +18,8 @@ pub enum Limit {
     OutputFull,
 }
 
-// The number of the limit that ended the work, 0 for none; how many findings a node has made from this event, in a row of eight that is lent; all findings of the passage; and the place after
-// the bytes written.
+// The number of the limit that ended the work, 0 for none; how many findings a node has made from this event, in a row of eight that is lent; all findings
+// of the passage; and the place after the bytes written.
 pub struct Emit {
     pub limit: u64,
     pub made: usize,
@@ -56,15 +60,18 @@ fn stopped(e: Emit, limit: Limit) -> Emit
 // One finding: 32 where this node has made eight from this event, then 33 where it does not fit whole in the output left.
 pub fn emit_one(
     e: Emit,
-    made: &mut [[u64; 3]; 8],
+    made: &mut [Packed; 8],
     place: u64,
-    o: &[u64; 3],
-    ticks: &[u64; 256],
+    o: &Packed,
+    ticks: &[u64],
     loggers: &[u64; 8],
     out: &mut [u8],
 ) -> Emit
-    requires { ⌜ (getD (now ticks) 0 0 ≡ 0) × (e .at ≤ length (now out)) × (e .findings ≤ e .at) ⌝ }
-    ensures { λ r. ⌜ (emitOf (now (ticks .entry)) r (now (made .exit)) (now (out .exit)) ≡ emitted (length (now (out .entry))) (now (loggers .entry)) place (emitOf (now (ticks .entry)) e (now (made .entry)) (now (out .entry))) (occurrenceOf (now (ticks .entry)) (now (o .entry)))) × Beyond (now (out .entry)) (now (out .exit)) (e .at) (r .findings) (r .at) ⌝ }
+    requires { ⌜ Inside 8 (now ticks) (getD (now o) 2 0) × (getD (now ticks) 0 0 ≡ 0) × (e .at ≤ length (now out)) × (e .findings ≤ e .at) ⌝ }
+    ensures emits { λ r. ⌜ ((globals : List ℕ) (t : Notes (now (ticks .entry)) globals) (s : Emitting) (x : Occurrence)
+        → Emits t e (now (made .entry)) (now (out .entry)) s → Stands t (now (o .entry)) x
+        → Emits t r (now (made .exit)) (now (out .exit)) (emitted (length (now (out .entry))) (now (loggers .entry)) place s x)) ⌝ }
+    ensures beyond { λ r. ⌜ Beyond (now (out .entry)) (now (out .exit)) (e .at) (r .findings) (r .at) ⌝ }
 {
     let limit = e.limit;
     let n = e.made;

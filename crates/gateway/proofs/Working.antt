@@ -5,6 +5,7 @@ use mathlib.Core.Path.{_≡_, refl, sym, ap, subst, _∙_}
 use Prim.Native.Nat.{ℕ, _≤_}
 use lib.Dec.{eqb}
 use lib.ListN.{take}
+use Rattle.timestamps.specs.Order.{Clocks}
 use Rattle.forms.specs.Bytes.{Bytes}
 use Rattle.plans.specs.Layout.{Plan}
 use Rattle.plans.specs.Faults.{numberOf as planNumber}
@@ -53,9 +54,20 @@ module _ (room : ℕ) (passage : List ℕ) (a : PlanAnswer) where
     both-accepted e = rw (accepted, ← same-number, e)
 
 -- the events that the check notes: they are noted as themselves, and the run over them is the passage's
-module _ (events : List Event) (count : ℕ) (kinds loggers ticks : List ℕ) (noted : Noted events count kinds loggers ticks) where
-  pub noted-themselves : Noted (heldEvents count kinds loggers ticks) count kinds loggers ticks
-  noted-themselves = record { held = refl; few = noted .few; none = noted .none; each = noted .each }
+module _ (clocks : Clocks) (events : List Event) (count : ℕ) (kinds loggers ticks globals : List ℕ) (noted : Noted clocks events count kinds loggers ticks globals) where
+  pub noted-themselves : Noted clocks (heldEvents count kinds loggers ticks) count kinds loggers ticks globals
+  noted-themselves = record {
+    held = refl;
+    few = noted .few;
+    no-tick = noted .no-tick;
+    no-global = noted .no-global;
+    tick-room = noted .tick-room;
+    global-room = noted .global-room;
+    kind = noted .kind;
+    logger = noted .logger;
+    tick = noted .tick;
+    global = noted .global;
+  }
 
   pub ran-noted : (p : Plan) (out : List ℕ) (r : Run) (out′ : List ℕ) → Ran p (heldEvents count kinds loggers ticks) out r out′ → Ran p events out r out′
   ran-noted p out r out′ ran = subst (λ (es : List Event). Ran p es out r out′) (noted .held) ran

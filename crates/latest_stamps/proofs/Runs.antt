@@ -23,7 +23,7 @@ use Rattle.occurrences.specs.Occurrences.{ofEvent}
 use Rattle.occurrences.proofs.Latest.{exact-combination, exact-combined, exact-event}
 use Rattle.detections.specs.Findings.{findingsBytes}
 use Rattle.plans.specs.declared.Node.{Node}
-use Rattle.plans.specs.Layout.{Plan}
+use Rattle.plans.specs.Layout.{Plan, planClocks}
 use Rattle.plans.specs.Limits.{noNode}
 use Rattle.passages.specs.declared.Event.{Event}
 use Rattle.emissions.specs.declared.Limit.the-variants.{None}
@@ -59,8 +59,8 @@ module _ {A : Type 0} where
 
 -- ---- an event's turn
 module _ (P : Occurrence → Type 0) (s : Setting) (nodes : List Node)
-    (two : (a b : Occurrence) → P a → P b → P (combinedOf (s .ratio) a b))
-    (more : (o : Occurrence) (parts : List Occurrence) → All P (o ∷ parts) → P (combinationOf (s .ratio) (o ∷ parts))) where
+    (two : (a b : Occurrence) → P a → P b → P (combinedOf (s .clocks) a b))
+    (more : (o : Occurrence) (parts : List Occurrence) → All P (o ∷ parts) → P (combinationOf (s .clocks) (o ∷ parts))) where
   abbrev Fine : ℕ → Progress → Type 0
   Fine i p = Kept P (s .loggers) (length nodes) i p
 
@@ -165,25 +165,25 @@ module _ (P : Occurrence → Type 0) (s : Setting) (nodes : List Node)
 -- ---- the theorem: for every output length, plan and list of events, after every event
 pub run-exact : (room : ℕ) (plan : Plan) (events : List Event) → Placeable (map stampOf events) → length events ≤ 128
     → (i : ℕ) → i ≤ length events
-    → Kept (Exact (plan .ratio) (map stampOf events)) (numbersByPlace (plan .loggers)) (length (plan .nodes)) i (runOf room plan (take i events))
+    → Kept (Exact (planClocks plan) (map stampOf events)) (numbersByPlace (plan .loggers)) (length (plan .nodes)) i (runOf room plan (take i events))
 unfolding runOf
 run-exact room plan events small few i within =
-    subst (λ n. Kept (Exact (plan .ratio) (map stampOf events)) (numbersByPlace (plan .loggers)) (length (plan .nodes)) n (runOf room plan (take i events))) counted
-    (run-keeps (Exact (plan .ratio) (map stampOf events)) (settingOf room (plan .ratio) (numbersByPlace (plan .loggers))) (plan .nodes)
-    (exact-combined (plan .ratio) (map stampOf events) small) (exact-combination (plan .ratio) (map stampOf events) small)
+    subst (λ n. Kept (Exact (planClocks plan) (map stampOf events)) (numbersByPlace (plan .loggers)) (length (plan .nodes)) n (runOf room plan (take i events))) counted
+    (run-keeps (Exact (planClocks plan) (map stampOf events)) (settingOf room (planClocks plan) (numbersByPlace (plan .loggers))) (plan .nodes)
+    (exact-combined (planClocks plan) (map stampOf events) small) (exact-combination (planClocks plan) (map stampOf events) small)
     noEvent (take i events) own)
   where
     noEvent : Event
-    noEvent = record { kind = 0; logger = 0; tick = 0 }
+    noEvent = record { kind = 0; logger = 0; tick = record { 0 = 0 } }
 
     counted : 0 + length (take i events) ≡ i
     counted = omega (arith, length-take i events)
 
-    own : (j : ℕ) → j < length (take i events) → Exact (plan .ratio) (map stampOf events) (ofEvent (stampOf (getD (take i events) j noEvent)) (0 + j))
+    own : (j : ℕ) → j < length (take i events) → Exact (planClocks plan) (map stampOf events) (ofEvent (stampOf (getD (take i events) j noEvent)) (0 + j))
     own j h =
         let k : j < i = omega (arith, length-take i events) in
         let l : j < length events = omega arith in
         let m : j < length (map stampOf events) = omega (arith, length-map events stampOf) in
         let n : j < 128 = omega arith in
         let z : 0 + j ≡ j = omega arith in
-        rw (z, getD-take i events j noEvent k, ← getD-map stampOf events j noEvent blankStamp l) (exact-event (plan .ratio) (map stampOf events) small j n m)
+        rw (z, getD-take i events j noEvent k, ← getD-map stampOf events j noEvent blankStamp l) (exact-event (planClocks plan) (map stampOf events) small j n m)

@@ -55,8 +55,8 @@ module _ (P : Occurrence → Type 0) where
 
 -- ---- a node's turn
 module _ (P : Occurrence → Type 0) (s : Setting) (n : ℕ)
-    (two : (a b : Occurrence) → P a → P b → P (combinedOf (s .ratio) a b))
-    (more : (o : Occurrence) (parts : List Occurrence) → All P (o ∷ parts) → P (combinationOf (s .ratio) (o ∷ parts))) where
+    (two : (a b : Occurrence) → P a → P b → P (combinedOf (s .clocks) a b))
+    (more : (o : Occurrence) (parts : List Occurrence) → All P (o ∷ parts) → P (combinationOf (s .clocks) (o ∷ parts))) where
   pub record Emits (e : Emitting) : Type 0 where
     pub made : All P (e .made)
     pub written : Written P (s .loggers) n (e .findings) (e .bytes)
@@ -110,9 +110,9 @@ module _ (P : Occurrence → Type 0) (s : Setting) (n : ℕ)
     unfolding emittedAll
     emittedAll-keeps e l h k = fold-all Emits _ l e k (λ f o m q. emitted-keeps f o (h o m) q)
 
-    made-keeps : (x : Findings) (those : List Occurrence) (o : Occurrence) → All P those → P o → All P (madeOf x (s .ratio) those o)
+    made-keeps : (x : Findings) (those : List Occurrence) (o : Occurrence) → All P those → P o → All P (madeOf x (s .clocks) those o)
     unfolding madeOf
-    made-keeps each those o h k = λ p m. let (w, i, e) = map-of (λ w. combinedOf (s .ratio) w o) those m in subst P (sym e) (two w o (h w i) k)
+    made-keeps each those o h k = λ p m. let (w, i, e) = map-of (λ w. combinedOf (s .clocks) w o) those m in subst P (sym e) (two w o (h w i) k)
     made-keeps together [] o h k = all-none P
     made-keeps together (w ∷ those) o h k = all-one P _ (more o (w ∷ those) (all-cons P o (w ∷ those) k h))
 
@@ -121,8 +121,8 @@ module _ (P : Occurrence → Type 0) (s : Setting) (n : ℕ)
     unfolding metBy findingsOf restOf
     met-keeps waiting candidates e o h k q = record {
       list = pick-all (All P) (reached (emittedAll (s .room) (s .loggers) place e (findingsOf s node waiting candidates o) .limit)) waiting (restOf s node waiting candidates) h
-          (λ x m. h x (order-in (unmarked-order waiting (chosen (rowOf (node .context)) (s .ratio) waiting candidates .removed)) m));
-      emit = emittedAll-keeps e _ (made-keeps _ _ o (λ x m. h x (order-in (marked-order waiting (chosen (rowOf (node .context)) (s .ratio) waiting candidates .taken)) m)) k) q;
+          (λ x m. h x (order-in (unmarked-order waiting (chosen (rowOf (node .context)) (s .clocks) waiting candidates .removed)) m));
+      emit = emittedAll-keeps e _ (made-keeps _ _ o (λ x m. h x (order-in (marked-order waiting (chosen (rowOf (node .context)) (s .clocks) waiting candidates .taken)) m)) k) q;
     }
 
     waited-keeps : (l : List Occurrence) (e : Emitting) (o : Occurrence) → All P l → P o → Emits e → MetOk (waited l e o)
@@ -154,7 +154,7 @@ module _ (P : Occurrence → Type 0) (s : Setting) (n : ℕ)
     seq-right-keeps : (t : Turned) (o : Occurrence) → TurnOk t → P o → TurnOk (seqRight s node place t o)
     unfolding seqRight
     seq-right-keeps t o q k =
-        let w = met-keeps (t .left) (seqCandidates (s .ratio) (t .left) o) (t .emit) o (q .left) k (q .emit) in
+        let w = met-keeps (t .left) (seqCandidates (s .clocks) (t .left) o) (t .emit) o (q .left) k (q .emit) in
         record { left = w .list; right = q .right; emit = w .emit }
 
     or-keeps : (t : Turned) (o : Occurrence) → TurnOk t → P o → TurnOk (orArrived s place t o)

@@ -6,6 +6,7 @@ use native.Mathlib.Omega.{arith}
 use lib.ListN.{drop, length}
 use Rattle.sequences.specs.Members.{_∈_}
 use Rattle.forms.specs.Bytes.{Bytes}
+use Rattle.plans.specs.Layout.{planClocks}
 use Rattle.plans.specs.Reader.{readPlan}
 use Rattle.detections.specs.Findings.{Finding, findingsBytes}
 use Rattle.working.specs.declared.Answer.{Answer}
@@ -19,7 +20,7 @@ use Rattle.listing.proofs.Theorems.{lines-of-findings}
 pub record Printed (plan passage : List ℕ) (room : ℕ) (out′ : List ℕ) (r : Answer) : Type 0 where
   pub findings : List Finding
   pub written : worked plan passage room .bytes ≡ findingsBytes findings
-  pub exact : (f : Finding) → f ∈ findings → ExactFinding (readPlan plan .plan .ratio) (entriesOf plan passage) f
+  pub exact : (f : Finding) → f ∈ findings → ExactFinding (planClocks (readPlan plan .plan)) (entriesOf plan passage) f
   pub lines : linesAt out′ 0 (r .findings) ≡ linesText findings
 
 pub findings-printed : (plan passage : List ℕ) (room : ℕ) → Bytes plan → Bytes passage → (out out′ : List ℕ) (r : Answer)

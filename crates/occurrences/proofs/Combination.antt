@@ -17,7 +17,7 @@ use Rattle.timestamps.specs.declared.CompositeTimestamp.{CompositeTimestamp}
 use Rattle.timestamps.specs.Composite.{members}
 use Rattle.timestamps.specs.Join.{joinOf}
 use Rattle.timestamps.specs.Maxima.{maxima}
-use Rattle.timestamps.specs.Order.{before}
+use Rattle.timestamps.specs.Order.{Clocks, before}
 use Rattle.timestamps.proofs.Join.{Placeable, joinOf-covered, joinOf-covers, joinOf-same, joinOf-++, members-joinOf, members-placeable}
 use Rattle.timestamps.proofs.Maxima.{Covers, covers-append, covers-same}
 use Rattle.occurrences.specs.declared.Occurrence.{Occurrence}
@@ -103,52 +103,52 @@ events-same : (ps qs : List Occurrence) → SameMembers ps qs → eventsOf ps �
 events-same ps qs w =
     sym (parts-within qs ps (w .1)) ∙ union-comm (eventsOf qs) (eventsOf ps) ∙ parts-within ps qs (w .0)
 
-module _ (ratio : ℕ) where
+module _ (clocks : Clocks) where
   -- ---- order and repetition of the parts do not matter
-  pub combination-same : (ps qs : List Occurrence) → SameMembers ps qs → combinationOf ratio ps ≡ combinationOf ratio qs
+  pub combination-same : (ps qs : List Occurrence) → SameMembers ps qs → combinationOf clocks ps ≡ combinationOf clocks qs
   unfolding combinationOf
-  combination-same ps qs w = same-occurrence (joinOf-same ratio (stampsOf ps) (stampsOf qs) (stamps-same ps qs w)) (events-same ps qs w)
+  combination-same ps qs w = same-occurrence (joinOf-same clocks (stampsOf ps) (stampsOf qs) (stamps-same ps qs w)) (events-same ps qs w)
 
   -- ---- one part at a time
-  covers-self : (l : List Timestamp) → Covers (before ratio) l l
-  covers-self l = covers-same (before ratio) (same-refl l)
+  covers-self : (l : List Timestamp) → Covers (before clocks) l l
+  covers-self l = covers-same (before clocks) (same-refl l)
 
-  pub combination-two : (a b : Occurrence) → combinedOf ratio a b ≡ combinationOf ratio (a ∷ b ∷ [])
+  pub combination-two : (a b : Occurrence) → combinedOf clocks a b ≡ combinationOf clocks (a ∷ b ∷ [])
   unfolding combinationOf combinedOf stampsOf eventsOf
   combination-two a b = same-occurrence
-      (ap (λ l. joinOf ratio (members (a .latest) ++ l)) (sym (append-nil (members (b .latest)))))
+      (ap (λ l. joinOf clocks (members (a .latest) ++ l)) (sym (append-nil (members (b .latest)))))
       (ap (unionOf (a .events)) (sym (union-none (b .events))))
 
-  pub combination-append : (ps qs : List Occurrence) → combinedOf ratio (combinationOf ratio ps) (combinationOf ratio qs) ≡ combinationOf ratio (ps ++ qs)
+  pub combination-append : (ps qs : List Occurrence) → combinedOf clocks (combinationOf clocks ps) (combinationOf clocks qs) ≡ combinationOf clocks (ps ++ qs)
   unfolding combinationOf combinedOf
   combination-append ps qs = same-occurrence
-      (joinOf-++ ratio (stampsOf ps) (stampsOf qs) (stamps-placeable ps) (stamps-placeable qs) ∙ ap (joinOf ratio) (sym (stamps-append ps qs)))
+      (joinOf-++ clocks (stampsOf ps) (stampsOf qs) (stamps-placeable ps) (stamps-placeable qs) ∙ ap (joinOf clocks) (sym (stamps-append ps qs)))
       (sym (events-append ps qs))
 
-  pub combination-more : (ps : List Occurrence) (o : Occurrence) → combinedOf ratio (combinationOf ratio ps) o ≡ combinationOf ratio (ps ++ (o ∷ []))
+  pub combination-more : (ps : List Occurrence) (o : Occurrence) → combinedOf clocks (combinationOf clocks ps) o ≡ combinationOf clocks (ps ++ (o ∷ []))
   unfolding combinationOf combinedOf stampsOf eventsOf
   combination-more ps o = same-occurrence
-      (joinOf-covered ratio _ (stampsOf ps ++ members (o .latest))
-      (covers-append (before ratio) _ (stampsOf ps) _ (members (o .latest)) (joinOf-covers ratio (stampsOf ps) (stamps-placeable ps)) (covers-self (members (o .latest))))
-      ∙ ap (joinOf ratio) (sym (stamps-append ps (o ∷ []) ∙ ap (λ l. stampsOf ps ++ l) (append-nil (members (o .latest))))))
+      (joinOf-covered clocks _ (stampsOf ps ++ members (o .latest))
+      (covers-append (before clocks) _ (stampsOf ps) _ (members (o .latest)) (joinOf-covers clocks (stampsOf ps) (stamps-placeable ps)) (covers-self (members (o .latest))))
+      ∙ ap (joinOf clocks) (sym (stamps-append ps (o ∷ []) ∙ ap (λ l. stampsOf ps ++ l) (append-nil (members (o .latest))))))
       (sym (events-append ps (o ∷ []) ∙ ap (unionOf (eventsOf ps)) (union-none (o .events))))
 
   -- a loop that combines o with the parts in turn
-  combination-loop : (parts ps : List Occurrence) → fold (combinedOf ratio) parts (combinationOf ratio ps) ≡ combinationOf ratio (ps ++ parts)
-  combination-loop [] ps = fold-none (combinedOf ratio) (combinationOf ratio ps) ∙ ap (combinationOf ratio) (sym (append-nil ps))
+  combination-loop : (parts ps : List Occurrence) → fold (combinedOf clocks) parts (combinationOf clocks ps) ≡ combinationOf clocks (ps ++ parts)
+  combination-loop [] ps = fold-none (combinedOf clocks) (combinationOf clocks ps) ∙ ap (combinationOf clocks) (sym (append-nil ps))
   combination-loop (p ∷ parts) ps =
-      fold-next (combinedOf ratio) p parts (combinationOf ratio ps)
-      ∙ ap (fold (combinedOf ratio) parts) (combination-more ps p)
+      fold-next (combinedOf clocks) p parts (combinationOf clocks ps)
+      ∙ ap (fold (combinedOf clocks) parts) (combination-more ps p)
       ∙ combination-loop parts (ps ++ (p ∷ []))
-      ∙ ap (combinationOf ratio) (append-assoc ps (p ∷ []) parts)
+      ∙ ap (combinationOf clocks) (append-assoc ps (p ∷ []) parts)
 
-  pub combination-fold : (o p : Occurrence) (parts : List Occurrence) → fold (combinedOf ratio) (p ∷ parts) o ≡ combinationOf ratio (o ∷ p ∷ parts)
+  pub combination-fold : (o p : Occurrence) (parts : List Occurrence) → fold (combinedOf clocks) (p ∷ parts) o ≡ combinationOf clocks (o ∷ p ∷ parts)
   combination-fold o p parts =
-      fold-next (combinedOf ratio) p parts o
-      ∙ ap (fold (combinedOf ratio) parts) (combination-two o p)
+      fold-next (combinedOf clocks) p parts o
+      ∙ ap (fold (combinedOf clocks) parts) (combination-two o p)
       ∙ combination-loop parts (o ∷ p ∷ [])
 
   -- ---- the stamps of a combination are exactly those of its parts that are before none of theirs
-  pub combination-latest : (ps : List Occurrence) → SameMembers (members (combinationOf ratio ps .latest)) (maxima (before ratio) (stampsOf ps))
+  pub combination-latest : (ps : List Occurrence) → SameMembers (members (combinationOf clocks ps .latest)) (maxima (before clocks) (stampsOf ps))
   unfolding combinationOf
-  combination-latest ps = members-joinOf ratio (stampsOf ps) (stamps-placeable ps)
+  combination-latest ps = members-joinOf clocks (stampsOf ps) (stamps-placeable ps)

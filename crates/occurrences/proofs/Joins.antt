@@ -1,190 +1,210 @@
--- The join by words: of each logger the later word, and of these those that are not below the floor of the highest.
-use mathlib.Core.Bool.{true, false}
+-- The join by notes: of each logger the later stamp, and of these those that are not clearly earlier than the highest global tick, are those before none.
+use mathlib.Core.Bool.{Bool, true}
 use mathlib.Core.List.{List, [], _∷_, _++_, Memᴰ·append-left, Memᴰ·append-right, List·Memᴰ·append-cases}
 use mathlib.Core.Logic.{_⊎_, inl, inr, ⊎-elim}
-use mathlib.Core.Path.{_≡_, refl, sym, ap, ap₂, _∙_}
-use Prim.Native.Nat.{ℕ, max, _+_, _-_, _/_, _≤_, _<_}
-use native.Mathlib.Decide.{ℕ-discrete, decLt}
+use mathlib.Core.Path.{_≡_, refl, ap, ap₂, _∙_}
+use Prim.Native.Nat.{ℕ, max, _+_, _-_, _≤_, _<_}
+use native.Mathlib.Decide.{decLt}
 use native.Mathlib.Omega.{arith}
-use lib.Bits.{bitOr}
-use lib.Dec.{ltb}
-use lib.ListN.{getD, length}
 use borrow.Author.Tests.{le-ltb, lt-ltb}
-use Rattle.sequences.specs.Choice.{pick}
-use Rattle.sequences.specs.Members.{_∈_}
-use Rattle.sequences.specs.Select.{any}
-use Rattle.sequences.proofs.Booleans.{false-of-not-true}
-use Rattle.sequences.proofs.Select.{any-in, any-none}
+use lib.ListN.{getD, length}
+use Rattle.sequences.specs.Members.{_∈_, SameMembers}
+use Rattle.sequences.proofs.Booleans.{false-of-not-true, never-both}
+use Rattle.sequences.proofs.Members.{same-sym, same-trans}
+use Rattle.event_sets.specs.declared.EventSet.{EventSet}
 use Rattle.event_sets.specs.Sets.{unionOf}
-use Rattle.timestamps.specs.declared.LocalTick.{LocalTick}
 use Rattle.timestamps.specs.declared.Timestamp.{Timestamp}
-use Rattle.timestamps.specs.Composite.{members, stampAt, tickZero}
+use Rattle.timestamps.specs.Composite.{members}
 use Rattle.timestamps.specs.Join.{joinOf}
-use Rattle.timestamps.specs.Order.{before}
-use Rattle.timestamps.specs.Steps.{maximalAt}
-use Rattle.timestamps.proofs.Join.{joinOf-covered, joinOf-places}
-use Rattle.timestamps.proofs.Maxima.{Covers}
-use Rattle.timestamps.proofs.Order.{Before, before-is, before-says, clear-less, one-clock, quotient-le, two-clocks}
+use Rattle.timestamps.specs.Maxima.{maxima}
+use Rattle.timestamps.specs.Order.{Clocks, before}
+use Rattle.timestamps.proofs.Composite.{compositeOf-same}
+use Rattle.timestamps.proofs.Composites.{composite-same, maxima-composite}
+use Rattle.timestamps.proofs.Maxima.{Covers, maxima-covered, maxima-in, maxima-of}
+use Rattle.timestamps.proofs.Order.{Before, before-is, before-says, before-strict, clear-before, global, one-clock, two-clocks}
+use Rattle.occurrences.specs.declared.Occurrence.{Occurrence}
 use Rattle.occurrences.specs.Combination.{combinedOf}
-use Rattle.occurrences.specs.Packed.{fromWords, occurrenceOf, wordsOf}
-use Rattle.occurrences.specs.Steps.{Highest, Named, floorOf, joinedStamps, keptOf, laterAt, stampsIn, tickAt}
-use Rattle.occurrences.proofs.Bytes.{length-words, word-of}
+use Rattle.occurrences.specs.Packed.{Names, Notes, Sound, Stands, byteAt, fromWords, occurrenceOf, wordsOf}
+use Rattle.occurrences.specs.Steps.{Bytes, Highest, keptOf, laterAt, laterOf, noteAt}
 use Rattle.occurrences.proofs.Combination.{same-occurrence}
-use Rattle.occurrences.proofs.Floors.{clear-floor, floor-clear}
-use Rattle.occurrences.proofs.Steps.{highest-same}
-use Rattle.occurrences.proofs.Words.{latestOf, latest-places, member-word, present-at, tick-at, word-member, wordAt}
+use Rattle.occurrences.proofs.Seen.{Seen, seen-sound, seen-stands, stamp-told, stands-composite}
+use Rattle.occurrences.proofs.Views.{latest-in, stamp, stamps-one, stampsIn, view-is}
 
--- a timestamp by its word
-abbrev pub stamp : ℕ → ℕ → Timestamp
-stamp k v = record { logger = k; tick = record { 0 = v - 1 } }
+module _ (clocks : Clocks) where
+  abbrev R : Timestamp → Timestamp → Bool
+  R = before clocks
 
--- what is kept of a word
-pub kept-small : (f w : ℕ) → w < f → keptOf f w ≡ 0
-unfolding keptOf
-kept-small f w l = rw (lt-ltb w f l)
-
-pub kept-large : (f w : ℕ) → f ≤ w → keptOf f w ≡ w
-unfolding keptOf
-kept-large f w l = rw (le-ltb w f l)
-
-pub kept-none : (f w : ℕ) → w ≡ 0 → keptOf f w ≡ 0
-kept-none f w e = elim (decLt w f) [
-  | yes g ↦ kept-small f w g
-  | no g ↦ kept-large f w (omega arith) ∙ e
-]
-
-module _ (ratio : ℕ) where
-  -- one that is clearly earlier is before, also on one clock
-  pub clear-before : (s t : Timestamp) → s .tick .0 / ratio + 1 < t .tick .0 / ratio → before ratio s t ≡ true
-  clear-before s t h = before-is ratio s t (elim (ℕ-discrete (s .logger) (t .logger)) [
-    | yes e ↦ one-clock e (clear-less ratio (s .tick .0) (t .tick .0) h)
-    | no n ↦ two-clocks n h
-  ])
-
-  -- ---- of each logger the later
-  module _ (a b c : List ℕ) (later-word : (k : ℕ) → k < 8 → wordAt c k ≡ max (wordAt a k) (wordAt b k)) where
-    -- a timestamp whose word is no larger than the later one is there, or before the one that is
-    reach : (s : Timestamp) → s .logger < 8 → s .tick .0 + 1 ≤ wordAt c (s .logger)
-        → (s ∈ members (latestOf c)) ⊎ ((t : Timestamp) × (t ∈ members (latestOf c)) × (before ratio s t ≡ true))
-    reach s l h = elim (ℕ-discrete (wordAt c (s .logger)) (s .tick .0 + 1)) [
-      | yes e ↦ inl (word-member c s l e)
-      | no n ↦ inr (
-        stamp (s .logger) (wordAt c (s .logger)),
-        word-member c (stamp (s .logger) (wordAt c (s .logger))) l (omega arith),
-        before-is ratio s (stamp (s .logger) (wordAt c (s .logger))) (one-clock refl (omega arith)),
-      )
+  -- ---- the later stamp of each logger: no stamp that is before none goes
+  module _ (v g w h u i : ℕ → ℕ) (k l m : List Timestamp) (a : Seen clocks v g k) (b : Seen clocks w h l) (c : Seen clocks u i m)
+      (later : (j : ℕ) → j < 8 → u j ≡ max (v j) (w j)) where
+    -- a stamp whose note is not above the later one is there, or before the one that is
+    reach : (s : Timestamp) → s .logger < 8 → s .tick .0 + 1 ≤ u (s .logger) → (s ∈ m) ⊎ ((t : Timestamp) × (t ∈ m) × (R s t ≡ true))
+    reach s p e = elim (decLt (s .tick .0 + 1) (u (s .logger))) [
+      | yes o ↦ inr (stamp (s .logger) (u (s .logger)), c .member (stamp (s .logger) (u (s .logger))) p (omega arith), before-is clocks s (stamp (s .logger) (u (s .logger))) (one-clock refl (omega arith)))
+      | no o ↦ inl (c .member s p (omega arith))
     ]
 
-    merged-covers : Covers (before ratio) (members (latestOf c)) (members (latestOf a) ++ members (latestOf b))
+    pub merged-covers : Covers R m (k ++ l)
     merged-covers = record {
-      within = λ s i. (
-          let (l, e) = member-word c s i in
-          let w : wordAt c (s .logger) ≡ max (wordAt a (s .logger)) (wordAt b (s .logger)) = later-word (s .logger) l in
-          elim (decLt (wordAt a (s .logger)) (wordAt b (s .logger))) [
-            | yes h ↦ Memᴰ·append-right (members (latestOf a)) (word-member b s l (omega arith))
-            | no h ↦ Memᴰ·append-left (members (latestOf b)) (word-member a s l (omega arith))
+      within = λ s n. (
+          let p : s .logger < 8 = c .place s n in
+          let e : u (s .logger) ≡ s .tick .0 + 1 = c .local s n in
+          let f : u (s .logger) ≡ max (v (s .logger)) (w (s .logger)) = later (s .logger) p in
+          elim (decLt (v (s .logger)) (w (s .logger))) [
+            | yes o ↦ Memᴰ·append-right k (b .member s p (omega arith))
+            | no o ↦ Memᴰ·append-left l (a .member s p (omega arith))
           ]);
-      reached = λ s i. ⊎-elim
-          (λ j. let (l, e) = member-word a s j in
-          let w : wordAt c (s .logger) ≡ max (wordAt a (s .logger)) (wordAt b (s .logger)) = later-word (s .logger) l in reach s l (omega arith))
-          (λ j. let (l, e) = member-word b s j in
-          let w : wordAt c (s .logger) ≡ max (wordAt a (s .logger)) (wordAt b (s .logger)) = later-word (s .logger) l in reach s l (omega arith))
-          (List·Memᴰ·append-cases (members (latestOf a)) i);
+      reached = λ s n. ⊎-elim
+          (λ j. let p : s .logger < 8 = a .place s j in let e : v (s .logger) ≡ s .tick .0 + 1 = a .local s j in
+          let f : u (s .logger) ≡ max (v (s .logger)) (w (s .logger)) = later (s .logger) p in reach s p (omega arith))
+          (λ j. let p : s .logger < 8 = b .place s j in let e : w (s .logger) ≡ s .tick .0 + 1 = b .local s j in
+          let f : u (s .logger) ≡ max (v (s .logger)) (w (s .logger)) = later (s .logger) p in reach s p (omega arith))
+          (List·Memᴰ·append-cases k n);
     }
 
-    pub merged-join : joinOf ratio (members (latestOf c)) ≡ joinOf ratio (members (latestOf a) ++ members (latestOf b))
-    merged-join = joinOf-covered ratio (members (latestOf c)) (members (latestOf a) ++ members (latestOf b)) merged-covers
-
-  -- ---- those that are before none
-  module _ (c : List ℕ) (h : ℕ) (top : Highest 8 (wordAt c) h) where
-    tick-is : (k : ℕ) → stampAt (latestOf c) k .tick .0 ≡ wordAt c k - 1
-    tick-is k = ap (λ (x : LocalTick). x .0) (tick-at c k)
-
-    -- below the floor: the highest is after it
-    below-before : (k : ℕ) → 0 < wordAt c k → k < 8 → wordAt c k < floorOf ratio h → any (before ratio (stampAt (latestOf c) k)) (members (latestOf c)) ≡ true
-    below-before k p l f =
-        let g : wordAt c k ≤ h = top .most k l in
-        let (j, n, w) = top .some (omega arith) in
-        any-in (before ratio (stampAt (latestOf c) k)) (members (latestOf c))
-        (word-member c (stamp j h) n (omega arith))
-        (clear-before (stampAt (latestOf c) k) (stamp j h) (rw (tick-is k) (floor-clear ratio (wordAt c k) h p f)))
-
-    -- otherwise none is
-    above-none : (k : ℕ) → 0 < wordAt c k → floorOf ratio h ≤ wordAt c k → (t : Timestamp) → t ∈ members (latestOf c) → Before ratio (stampAt (latestOf c) k) t → ⊥
-    above-none k p f t m (one-clock e l) =
-        let (n, w) = member-word c t m in
-        let g : stampAt (latestOf c) k .tick .0 ≡ wordAt c k - 1 = tick-is k in
-        let v : wordAt c k ≡ t .tick .0 + 1 = ap (wordAt c) e ∙ w in
+  -- ---- those that are not clearly earlier than the highest are before none, and no others
+  module _ (u i x : ℕ → ℕ) (m n : List Timestamp) (c : Seen clocks u i m) (h : ℕ) (top : Highest 8 i h)
+      (place : (s : Timestamp) → s ∈ n → s .logger < 8) (local : (s : Timestamp) → s ∈ n → x (s .logger) ≡ s .tick .0 + 1)
+      (member : (s : Timestamp) → s .logger < 8 → x (s .logger) ≡ s .tick .0 + 1 → s ∈ n)
+      (small : (j : ℕ) → j < 8 → i j < h - 1 → x j ≡ 0) (large : (j : ℕ) → j < 8 → h - 1 ≤ i j → x j ≡ u j) where
+    -- one that is kept
+    kept-none : (s : Timestamp) → s ∈ m → h - 1 ≤ i (s .logger) → (t : Timestamp) → t ∈ m → Before clocks s t → ⊥
+    kept-none s p f t q (one-clock e l) =
+        let y : u (s .logger) ≡ s .tick .0 + 1 = c .local s p in
+        let z : u (s .logger) ≡ t .tick .0 + 1 = ap u e ∙ c .local t q in
         omega arith
-    above-none k p f t m (two-clocks d l) =
-        let (n, w) = member-word c t m in
-        let g : t .tick .0 ≤ h - 1 = (let o : wordAt c (t .logger) ≤ h = top .most (t .logger) n in omega arith) in
-        let q : t .tick .0 / ratio ≤ (h - 1) / ratio = quotient-le ratio (t .tick .0) (h - 1) g in
-        let r : (wordAt c k - 1) / ratio + 1 < t .tick .0 / ratio = rw (tick-is k) at l in
-        let u : wordAt c k < floorOf ratio h = clear-floor ratio (wordAt c k) h p (omega arith) in
+    kept-none s p f t q (two-clocks d l) =
+        let y : i (s .logger) ≡ global clocks s + 1 = c .whole s p in
+        let z : i (t .logger) ≡ global clocks t + 1 = c .whole t q in
+        let o : i (t .logger) ≤ h = top .most (t .logger) (c .place t q) in
         omega arith
 
-    -- what is kept at a place, and whether it is one of the join's
-    data Case (k : ℕ) : Type 0 where
-      gone : keptOf (floorOf ratio h) (wordAt c k) ≡ 0 → maximalAt ratio (latestOf c) k ≡ false → Case k
-      stays : 0 < wordAt c k → keptOf (floorOf ratio h) (wordAt c k) ≡ wordAt c k → maximalAt ratio (latestOf c) k ≡ true → Case k
+    -- one that is not
+    gone-before : (s : Timestamp) → s ∈ m → i (s .logger) < h - 1 → (t : Timestamp) × (t ∈ m) × (R s t ≡ true)
+    gone-before s p f =
+        let y : i (s .logger) ≡ global clocks s + 1 = c .whole s p in
+        let (j, o, e) = top .some (omega arith) in
+        let (t, q, a, b) = stamp-told clocks u i m c j o (omega arith) in
+        (t, q, clear-before clocks s t (omega arith))
 
-    kept-case : (k : ℕ) → k < 8 → Case k
-    unfolding maximalAt
-    kept-case k l = elim (decLt 0 (wordAt c k)) [
-      | yes p ↦ elim (decLt (wordAt c k) (floorOf ratio h)) [
-        | yes f ↦ gone (kept-small (floorOf ratio h) (wordAt c k) f) (rw (present-at c k, lt-ltb 0 (wordAt c k) p, below-before k p l f))
-        | no f ↦ stays p (kept-large (floorOf ratio h) (wordAt c k) (omega arith)) (rw (
-          present-at c k,
-          lt-ltb 0 (wordAt c k) p,
-          any-none (before ratio (stampAt (latestOf c) k)) (members (latestOf c)) (λ t m. false-of-not-true _ (λ e. above-none k p (omega arith) t m (before-says ratio (stampAt (latestOf c) k) t e))),
-        ))
-      ]
-      | no p ↦ gone (kept-none (floorOf ratio h) (wordAt c k) (omega arith)) (rw (present-at c k, le-ltb 0 (wordAt c k) (omega arith)))
-    ]
+    pub settled-maxima : SameMembers (maxima R m) n
+    settled-maxima = (up, down)
+      where
+        up : (s : Timestamp) → s ∈ maxima R m → s ∈ n
+        up s p =
+            let (q, f) = maxima-of R m s p in
+            let y : u (s .logger) ≡ s .tick .0 + 1 = c .local s q in
+            elim (decLt (i (s .logger)) (h - 1)) [
+              | yes l ↦ (let (t, o, e) = gone-before s q l in absurd (never-both e (f t o)))
+              | no l ↦ member s (c .place s q) (large (s .logger) (c .place s q) (omega arith) ∙ y)
+            ]
 
-    there : (k : ℕ) → Case k → ltb 0 (keptOf (floorOf ratio h) (wordAt c k)) ≡ maximalAt ratio (latestOf c) k
-    there k (gone e f) = rw (e, f)
-    there k (stays p e f) = rw (e, f) (lt-ltb 0 (wordAt c k) p)
+        down : (s : Timestamp) → s ∈ n → s ∈ maxima R m
+        down s p =
+            let l : s .logger < 8 = place s p in
+            let e : x (s .logger) ≡ s .tick .0 + 1 = local s p in
+            elim (decLt (i (s .logger)) (h - 1)) [
+              | yes o ↦ (let z : x (s .logger) ≡ 0 = small (s .logger) l o in absurd (omega arith))
+              | no o ↦ (let z : x (s .logger) ≡ u (s .logger) = large (s .logger) l (omega arith) in
+                  let q : s ∈ m = c .member s l (omega arith) in
+                  maxima-in R m s q (λ t r. false-of-not-true (R s t) (λ y. kept-none s q (omega arith) t r (before-says clocks s t y))))
+            ]
 
-    told : (k : ℕ) → Case k → _≡_ {A = LocalTick} (record { 0 = keptOf (floorOf ratio h) (wordAt c k) - 1 }) (pick (maximalAt ratio (latestOf c) k) (stampAt (latestOf c) k .tick) tickZero)
-    told k (gone e f) = rw (e, f)
-    told k (stays p e f) = rw (e, f) (sym (tick-at c k))
+-- ---- the bytes
+module _ (ticks : List ℕ) (i j : ℕ) where
+  pub later-note : getD ticks (laterOf ticks i j) 0 ≡ max (getD ticks i 0) (getD ticks j 0)
+  unfolding laterOf
+  later-note = elim (decLt (getD ticks i 0) (getD ticks j 0)) [
+    | yes l ↦ rw (lt-ltb (getD ticks i 0) (getD ticks j 0) l) (omega arith)
+    | no l ↦ rw (le-ltb (getD ticks i 0) (getD ticks j 0) (omega arith)) (omega arith)
+  ]
 
-    pub settled-join : (r : List ℕ) → length r ≡ 10 → ((k : ℕ) → k < 8 → wordAt r k ≡ keptOf (floorOf ratio h) (wordAt c k)) → latestOf r ≡ joinOf ratio (members (latestOf c))
-    settled-join r n kept =
-        latest-places r (maximalAt ratio (latestOf c)) (λ k. pick (maximalAt ratio (latestOf c) k) (stampAt (latestOf c) k .tick) tickZero) n
-        (λ k l. ap (ltb 0) (kept k l) ∙ there k (kept-case k l))
-        (λ k l. (λ i. record { 0 = kept k l i - 1 }) ∙ told k (kept-case k l))
-        ∙ joinOf-places ratio (latestOf c)
+  -- it is one of the two
+  pub later-one : (P : ℕ → Type 0) → P i → P j → P (laterOf ticks i j)
+  unfolding laterOf
+  later-one P p q = elim (decLt (getD ticks i 0) (getD ticks j 0)) [
+    | yes l ↦ rw (lt-ltb (getD ticks i 0) (getD ticks j 0) l) q
+    | no l ↦ rw (le-ltb (getD ticks i 0) (getD ticks j 0) (omega arith)) p
+  ]
 
-  -- ---- by the numbers that name them
-  module _ (ticks : List ℕ) where
-    abbrev wordsIn : ℕ → List ℕ
-    wordsIn w = wordsOf ticks (0 ∷ 0 ∷ w ∷ [])
+module _ (globals : List ℕ) (h n : ℕ) where
+  kept-small : getD globals n 0 < h - 1 → keptOf globals h n ≡ 0
+  unfolding keptOf
+  kept-small l = rw (lt-ltb (getD globals n 0 + 1) h (omega arith))
 
-    word-in : (w k : ℕ) → k < 8 → wordAt (wordsIn w) k ≡ tickAt ticks w k
-    word-in w = word-of ticks (0 ∷ 0 ∷ w ∷ [])
+  kept-large : h - 1 ≤ getD globals n 0 → keptOf globals h n ≡ n
+  unfolding keptOf
+  kept-large l = rw (le-ltb (getD globals n 0 + 1) h (omega arith))
 
-    pub stamps-joined : (a b m s h f : ℕ) → Named ticks 8 (laterAt ticks a b) m → Highest 8 (laterAt ticks a b) h → f ≡ floorOf ratio h
-        → Named ticks 8 (λ k. keptOf f (tickAt ticks m k)) s → stampsIn ticks s ≡ joinedStamps ratio ticks a b
-    stamps-joined a b m s h f later top e kept =
-        settled-join (wordsIn m) h
-        (highest-same 8 (laterAt ticks a b) (wordAt (wordsIn m)) h (λ k l. word-in m k l ∙ later .words k l) top)
-        (wordsIn s) (length-words ticks (0 ∷ 0 ∷ s ∷ []))
-        (λ k l. word-in s k l ∙ kept .words k l ∙ ap (λ x. keptOf x (tickAt ticks m k)) e ∙ ap (keptOf (floorOf ratio h)) (sym (word-in m k l)))
-        ∙ merged-join (wordsIn a) (wordsIn b) (wordsIn m)
-        (λ k l. word-in m k l ∙ later .words k l ∙ sym (ap₂ max (word-in a k l) (word-in b k l)))
+  -- it is the event, or none
+  pub kept-one : (P : ℕ → Type 0) → P 0 → P n → P (keptOf globals h n)
+  kept-one P z p = elim (decLt (getD globals n 0) (h - 1)) [
+    | yes l ↦ rw (kept-small l) z
+    | no l ↦ rw (kept-large (omega arith)) p
+  ]
 
-    -- the whole: the events of both, with the word w
-    module _ (a b : List ℕ) where
-      abbrev both : ℕ → List ℕ
-      both w = bitOr (getD a 0 0) (getD b 0 0) ∷ bitOr (getD a 1 0) (getD b 1 0) ∷ w ∷ []
+-- ---- the whole
+module _ (ticks globals : List ℕ) (a b : List ℕ) (m h r : ℕ) (e : EventSet)
+    (later : Bytes 8 (laterAt ticks (getD a 2 0) (getD b 2 0)) m)
+    (top : Highest 8 (λ k. getD globals (laterAt ticks (getD a 2 0) (getD b 2 0) k) 0) h)
+    (kept : Bytes 8 (λ k. keptOf globals h (byteAt m k)) r)
+    (united : e ≡ unionOf (record { low = getD a 0 0; high = getD a 1 0 }) (record { low = getD b 0 0; high = getD b 1 0 })) where
+  abbrev both : List ℕ
+  both = e .low ∷ e .high ∷ r ∷ []
 
-      events-is : (w : ℕ) → occurrenceOf ticks (both w) .events ≡ unionOf (occurrenceOf ticks a .events) (occurrenceOf ticks b .events)
-      unfolding fromWords unionOf wordsOf
-      events-is w = refl
+  module _ (n : Notes ticks globals) (x y : Occurrence) (p : Stands n a x) (q : Stands n b y) where
+    abbrev all : List Timestamp
+    all = members (x .latest) ++ members (y .latest)
 
-      pub combined-is : (w : ℕ) → stampsIn ticks w ≡ joinedStamps ratio ticks (getD a 2 0) (getD b 2 0) → occurrenceOf ticks (both w) ≡ combinedOf ratio (occurrenceOf ticks a) (occurrenceOf ticks b)
-      unfolding combinedOf fromWords wordsOf
-      combined-is w e = same-occurrence e (events-is w)
+    merged-names : (k : ℕ) → k < 8 → Names (n .stamps) k (byteAt m k)
+    merged-names k l = rw (later .bytes k l) (later-one ticks (byteAt (getD a 2 0) k) (byteAt (getD b 2 0) k) (Names (n .stamps) k) (p .sound .names k l) (q .sound .names k l))
+
+    kept-sound : (k : ℕ) → k < 8 → Names (n .stamps) k (byteAt r k)
+    kept-sound k l = rw (kept .bytes k l) (kept-one globals h (byteAt m k) (Names (n .stamps) k) (inl refl) (merged-names k l))
+
+    seen-m : Seen (n .clocks) (noteAt ticks m) (noteAt globals m) (stampsIn ticks m)
+    seen-m = seen-sound n m merged-names
+
+    seen-r : Seen (n .clocks) (noteAt ticks r) (noteAt globals r) (stampsIn ticks r)
+    seen-r = seen-sound n r kept-sound
+
+    covers : Covers (before (n .clocks)) (stampsIn ticks m) all
+    covers = merged-covers (n .clocks) _ _ _ _ _ _ (members (x .latest)) (members (y .latest)) (stampsIn ticks m)
+        (seen-stands n a x p) (seen-stands n b y q) seen-m
+        (λ k l. ap (λ b. getD ticks b 0) (later .bytes k l) ∙ later-note ticks (byteAt (getD a 2 0) k) (byteAt (getD b 2 0) k))
+
+    top-m : Highest 8 (noteAt globals m) h
+    top-m = record {
+      most = λ k l. rw (later .bytes k l) (top .most k l);
+      some = λ o. let (k, l, e) = top .some o in (k, l, ap (λ b. getD globals b 0) (later .bytes k l) ∙ e);
+    }
+
+    settled : SameMembers (maxima (before (n .clocks)) (stampsIn ticks m)) (stampsIn ticks r)
+    settled = settled-maxima (n .clocks) _ _ (noteAt ticks r) (stampsIn ticks m) (stampsIn ticks r) seen-m h top-m (seen-r .place) (seen-r .local) (seen-r .member)
+        (λ k l o. ap (λ b. getD ticks b 0) (kept .bytes k l ∙ kept-small globals h (byteAt m k) (omega arith)) ∙ n .no-tick)
+        (λ k l o. ap (λ b. getD ticks b 0) (kept .bytes k l ∙ kept-large globals h (byteAt m k) (omega arith)))
+
+    joined : SameMembers (stampsIn ticks r) (maxima (before (n .clocks)) all)
+    joined = same-trans (same-sym settled) (maxima-covered (before (n .clocks)) (before-strict (n .clocks)) (stampsIn ticks m) all covers)
+
+    latest-is : occurrenceOf ticks both .latest ≡ joinOf (n .clocks) all
+    unfolding joinOf
+    latest-is = latest-in ticks both ∙ view-is ticks r ∙ compositeOf-same (stampsIn ticks r) (maxima (before (n .clocks)) all) joined (stamps-one ticks r)
+
+    events-is : occurrenceOf ticks both .events ≡ unionOf (x .events) (y .events)
+    unfolding fromWords wordsOf
+    events-is = united ∙ ap₂ unionOf (ap (λ (o : Occurrence). o .events) (p .same)) (ap (λ (o : Occurrence). o .events) (q .same))
+
+    is-combined : occurrenceOf ticks both ≡ combinedOf (n .clocks) x y
+    unfolding combinedOf
+    is-combined = same-occurrence latest-is events-is
+
+    pub combined-stands : Stands n both (combinedOf (n .clocks) x y)
+    combined-stands = record {
+      same = is-combined;
+      sound = record {
+        names = kept-sound;
+        composite = rw (latest-in ticks both) (composite-same (n .clocks) joined
+            (maxima-composite (n .clocks) all (stands-composite n a x p .some .0) (Memᴰ·append-left (members (y .latest)) (stands-composite n a x p .some .1))));
+      };
+    }

@@ -17,7 +17,7 @@ use Rattle.event_sets.proofs.Members.{elements-has, elements-none, elements-one
 use Rattle.timestamps.specs.declared.Timestamp.{Timestamp}
 use Rattle.timestamps.specs.Composite.{members}
 use Rattle.timestamps.specs.Join.{joinOf}
-use Rattle.timestamps.specs.Order.{before, blank as blankStamp}
+use Rattle.timestamps.specs.Order.{Clocks, before, blank as blankStamp}
 use Rattle.timestamps.proofs.Join.{Placeable, joinOf-covered, joinOf-covers, joinOf-one}
 use Rattle.timestamps.proofs.Maxima.{Covers, covers-append, covers-same, covers-trans}
 use Rattle.timestamps.proofs.Order.{before-strict}
@@ -26,7 +26,7 @@ use Rattle.occurrences.specs.Combination.{combinationOf, combinedOf, eve
 use Rattle.occurrences.specs.Latest.{Exact, stampsAt}
 use Rattle.occurrences.specs.Occurrences.{ofEvent}
 
-module _ (ratio : ℕ) (stamps : List Timestamp) (small : Placeable stamps) where
+module _ (clocks : Clocks) (stamps : List Timestamp) (small : Placeable stamps) where
   -- the stamps of a set's events are the passage's
   pub stamps-placeable : (s : EventSet) → ((j : ℕ) → has s j ≡ true → j < length stamps) → Placeable (stampsAt stamps s)
   unfolding stampsAt
@@ -58,7 +58,7 @@ module _ (ratio : ℕ) (stamps : List Timestamp) (small : Placeable stamps) wher
   union-within a b p q j e = ⊎-elim (p j) (q j) (or-cases (has a j) (has b j) (sym (has-union a b j) ∙ e))
 
   -- ---- a file event
-  pub exact-event : (number : ℕ) → number < 128 → number < length stamps → Exact ratio stamps (ofEvent (getD stamps number blankStamp) number)
+  pub exact-event : (number : ℕ) → number < 128 → number < length stamps → Exact clocks stamps (ofEvent (getD stamps number blankStamp) number)
   unfolding ofEvent stampsAt
   exact-event number few in-stamps = record {
     some = (number, has-marked noEvents number number few ∙ or-left _ _ (eq-eqb number number refl));
@@ -66,22 +66,22 @@ module _ (ratio : ℕ) (stamps : List Timestamp) (small : Placeable stamps) wher
         (λ y. let k : j ≡ number = eqb-true j number y in omega arith)
         (λ n. absurd (never-both n (has-none j)))
         (or-cases (eqb j number) (has noEvents j) (sym (has-marked noEvents number j few) ∙ e));
-    latest = sym (joinOf-one ratio (getD stamps number blankStamp)) ∙ ap (λ l. joinOf ratio (map (λ j. getD stamps j blankStamp) l)) (sym (elements-one number few));
+    latest = sym (joinOf-one clocks (getD stamps number blankStamp)) ∙ ap (λ l. joinOf clocks (map (λ j. getD stamps j blankStamp) l)) (sym (elements-one number few));
   }
 
   -- ---- the combination of two exact parts
-  exact-covers : (o : Occurrence) → Exact ratio stamps o → Covers (before ratio) (members (o .latest)) (stampsAt stamps (o .events))
-  exact-covers o x = rw (x .latest) (joinOf-covers ratio (stampsAt stamps (o .events)) (stamps-placeable (o .events) (x .within)))
+  exact-covers : (o : Occurrence) → Exact clocks stamps o → Covers (before clocks) (members (o .latest)) (stampsAt stamps (o .events))
+  exact-covers o x = rw (x .latest) (joinOf-covers clocks (stampsAt stamps (o .events)) (stamps-placeable (o .events) (x .within)))
 
-  pub exact-combined : (a b : Occurrence) → Exact ratio stamps a → Exact ratio stamps b → Exact ratio stamps (combinedOf ratio a b)
+  pub exact-combined : (a b : Occurrence) → Exact clocks stamps a → Exact clocks stamps b → Exact clocks stamps (combinedOf clocks a b)
   unfolding combinedOf
   exact-combined a b x y = record {
     some = (x .some .0, has-union (a .events) (b .events) (x .some .0) ∙ or-left _ _ (x .some .1));
     within = union-within (a .events) (b .events) (x .within) (y .within);
-    latest = joinOf-covered ratio _ _
-        (covers-trans (before ratio) (before-strict ratio) _ (stampsAt stamps (a .events) ++ stampsAt stamps (b .events)) _
-        (covers-append (before ratio) _ _ _ _ (exact-covers a x) (exact-covers b y))
-        (covers-same (before ratio) (union-stamps (a .events) (b .events))));
+    latest = joinOf-covered clocks _ _
+        (covers-trans (before clocks) (before-strict clocks) _ (stampsAt stamps (a .events) ++ stampsAt stamps (b .events)) _
+        (covers-append (before clocks) _ _ _ _ (exact-covers a x) (exact-covers b y))
+        (covers-same (before clocks) (union-stamps (a .events) (b .events))));
   }
 
   -- ---- the combination of one or more exact parts
@@ -89,10 +89,10 @@ module _ (ratio : ℕ) (stamps : List Timestamp) (small : Placeable stamps) wher
   unfolding stampsAt
   stamps-none = ap (map (λ j. getD stamps j blankStamp)) elements-none
 
-  parts-cover : (parts : List Occurrence) → ((o : Occurrence) → o ∈ parts → Exact ratio stamps o)
-      → Covers (before ratio) (stampsOf parts) (stampsAt stamps (eventsOf parts))
+  parts-cover : (parts : List Occurrence) → ((o : Occurrence) → o ∈ parts → Exact clocks stamps o)
+      → Covers (before clocks) (stampsOf parts) (stampsAt stamps (eventsOf parts))
   unfolding stampsOf eventsOf
-  parts-cover [] h = covers-same (before ratio) (none-up, none-down)
+  parts-cover [] h = covers-same (before clocks) (none-up, none-down)
     where
       none-up : (t : Timestamp) → t ∈ [] → t ∈ stampsAt stamps noEvents
       none-up t m = absurd (List·Memᴰ·not-nil m)
@@ -100,26 +100,26 @@ module _ (ratio : ℕ) (stamps : List Timestamp) (small : Placeable stamps) wher
       none-down : (t : Timestamp) → t ∈ stampsAt stamps noEvents → t ∈ []
       none-down t m = rw stamps-none at m
   parts-cover (o ∷ parts) h =
-      covers-trans (before ratio) (before-strict ratio) _ (stampsAt stamps (o .events) ++ stampsAt stamps (eventsOf parts)) _
-      (covers-append (before ratio) _ _ _ _ (exact-covers o (h o (List·Memᴰ·head refl))) (parts-cover parts (λ p m. h p (List·Memᴰ·tail m))))
-      (covers-same (before ratio) (union-stamps (o .events) (eventsOf parts)))
+      covers-trans (before clocks) (before-strict clocks) _ (stampsAt stamps (o .events) ++ stampsAt stamps (eventsOf parts)) _
+      (covers-append (before clocks) _ _ _ _ (exact-covers o (h o (List·Memᴰ·head refl))) (parts-cover parts (λ p m. h p (List·Memᴰ·tail m))))
+      (covers-same (before clocks) (union-stamps (o .events) (eventsOf parts)))
 
   event-of-first : (o : Occurrence) (parts : List Occurrence) (j : ℕ) → has (o .events) j ≡ true → has (eventsOf (o ∷ parts)) j ≡ true
   unfolding eventsOf
   event-of-first o parts j e = has-union (o .events) (eventsOf parts) j ∙ or-left _ _ e
 
-  events-within : (parts : List Occurrence) → ((p : Occurrence) → p ∈ parts → Exact ratio stamps p) → (j : ℕ) → has (eventsOf parts) j ≡ true → j < length stamps
+  events-within : (parts : List Occurrence) → ((p : Occurrence) → p ∈ parts → Exact clocks stamps p) → (j : ℕ) → has (eventsOf parts) j ≡ true → j < length stamps
   unfolding eventsOf
   events-within [] h j e = absurd (never-both e (has-none j))
   events-within (o ∷ parts) h j e = union-within (o .events) (eventsOf parts) (h o (List·Memᴰ·head refl) .within) (events-within parts (λ p m. h p (List·Memᴰ·tail m))) j e
 
-  pub exact-combination : (o : Occurrence) (parts : List Occurrence) → ((p : Occurrence) → p ∈ (o ∷ parts) → Exact ratio stamps p)
-      → Exact ratio stamps (combinationOf ratio (o ∷ parts))
+  pub exact-combination : (o : Occurrence) (parts : List Occurrence) → ((p : Occurrence) → p ∈ (o ∷ parts) → Exact clocks stamps p)
+      → Exact clocks stamps (combinationOf clocks (o ∷ parts))
   unfolding combinationOf
   exact-combination o parts h =
-      let x : Exact ratio stamps o = h o (List·Memᴰ·head refl) in
+      let x : Exact clocks stamps o = h o (List·Memᴰ·head refl) in
       record {
         some = (x .some .0, event-of-first o parts (x .some .0) (x .some .1));
         within = events-within (o ∷ parts) h;
-        latest = joinOf-covered ratio (stampsOf (o ∷ parts)) (stampsAt stamps (eventsOf (o ∷ parts))) (parts-cover (o ∷ parts) h);
+        latest = joinOf-covered clocks (stampsOf (o ∷ parts)) (stampsAt stamps (eventsOf (o ∷ parts))) (parts-cover (o ∷ parts) h);
       }

@@ -3,10 +3,12 @@ pub mod Bytes
 pub mod Combination
 pub mod Events
 pub mod FileEvents
-pub mod Floors
 pub mod Joins
 pub mod Latest
 pub mod Order
 pub mod Packed
+pub mod Rows
+pub mod Seen
 pub mod Steps
+pub mod Views
 pub mod Words

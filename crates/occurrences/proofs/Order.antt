@@ -12,40 +12,40 @@ use Rattle.timestamps.specs.declared.Timestamp.{Timestamp}
 use Rattle.timestamps.specs.Comparison.{allBefore}
 use Rattle.timestamps.specs.Composite.{members}
 use Rattle.timestamps.specs.Maxima.{maxima, StrictOrder}
-use Rattle.timestamps.specs.Order.{before}
+use Rattle.timestamps.specs.Order.{Clocks, before}
 use Rattle.timestamps.proofs.Maxima.{maxima-of, maxima-reach}
 use Rattle.timestamps.proofs.Order.{before-irrefl, before-trans}
 use Rattle.occurrences.specs.declared.Occurrence.{Occurrence}
 use Rattle.occurrences.specs.Occurrences.{isBefore}
 
-module _ (ratio : ℕ) where
+module _ (clocks : Clocks) where
   -- the order of timestamps, turned round
   abbrev after : Timestamp → Timestamp → Bool
-  after s t = before ratio t s
+  after s t = before clocks t s
 
   after-strict : StrictOrder after
-  after-strict = record { irreflexive = before-irrefl ratio; transitive = λ a b c p q. before-trans ratio c b a q p }
+  after-strict = record { irreflexive = before-irrefl clocks; transitive = λ a b c p q. before-trans clocks c b a q p }
 
   -- timestamps of which there is at least one are not before themselves: the earliest has none before it
-  all-before-itself : (l : List Timestamp) {s : Timestamp} → s ∈ l → allBefore ratio l l ≡ true → ⊥
+  all-before-itself : (l : List Timestamp) {s : Timestamp} → s ∈ l → allBefore clocks l l ≡ true → ⊥
   unfolding allBefore
   all-before-itself l {s} m e = ⊎-elim first (λ t. first (t .1)) (maxima-reach after after-strict l s m)
     where
       first : {t : Timestamp} → t ∈ maxima after l → ⊥
       first {t} i =
           let (j, none) = maxima-of after l t i in
-          let (u, k, y) = any-of (λ x. before ratio x t) l (all-of (λ x. any (λ z. before ratio z x) l) l e j) in
+          let (u, k, y) = any-of (λ x. before clocks x t) l (all-of (λ x. any (λ z. before clocks z x) l) l e j) in
           never-both y (none u k)
 
   -- an occurrence with at least one timestamp is not before itself
-  pub not-before-itself : (o : Occurrence) {s : Timestamp} → s ∈ members (o .latest) → isBefore ratio o o ≡ false
+  pub not-before-itself : (o : Occurrence) {s : Timestamp} → s ∈ members (o .latest) → isBefore clocks o o ≡ false
   unfolding isBefore
   not-before-itself o m = false-of-not-true _ (all-before-itself (members (o .latest)) m)
 
   -- before carries on through a middle occurrence
-  pub before-carries : (a b c : Occurrence) → isBefore ratio a b ≡ true → isBefore ratio b c ≡ true → isBefore ratio a c ≡ true
+  pub before-carries : (a b c : Occurrence) → isBefore clocks a b ≡ true → isBefore clocks b c ≡ true → isBefore clocks a c ≡ true
   unfolding isBefore allBefore
   before-carries a b c p q = all-in _ (members (c .latest)) (λ u k.
-      let (t, i, y) = any-of (λ x. before ratio x u) (members (b .latest)) (all-of _ (members (c .latest)) q k) in
-      let (s, j, z) = any-of (λ x. before ratio x t) (members (a .latest)) (all-of _ (members (b .latest)) p i) in
-      any-in (λ x. before ratio x u) (members (a .latest)) j (before-trans ratio s t u z y))
+      let (t, i, y) = any-of (λ x. before clocks x u) (members (b .latest)) (all-of _ (members (c .latest)) q k) in
+      let (s, j, z) = any-of (λ x. before clocks x t) (members (a .latest)) (all-of _ (members (b .latest)) p i) in
+      any-in (λ x. before clocks x u) (members (a .latest)) j (before-trans clocks s t u z y))

@@ -1,27 +1,38 @@
--- Rows of packed occurrences: how many there are, what stands at a place, one more, another at a place.
-use mathlib.Core.Path.{_≡_, refl, ap, sym, _∙_}
-use mathlib.Core.List.{List, [], _∷_, _++_, map}
-use Prim.Native.Nat.{ℕ, min, _+_, _<_}
-use native.Mathlib.Omega.{arith}
-use lib.ListN.{getD, length, length-map, length-take, set, take}
-use lib.Seq.{getD-take}
-use Rattle.sequences.proofs.Arrays.{append-room, map-set}
+-- Lists of packed occurrences and what they stand for.
+use mathlib.Core.Path.{_≡_, refl, sym, ap, ap₂, subst, _∙_}
+use mathlib.Core.List.{List, [], _∷_, _++_, map, map-append, List·Memᴰ·eq-of-singleton, List·Memᴰ·not-nil, List·Memᴰ·append-cases}
+use mathlib.Core.Logic.{⊎-elim}
+use Prim.Native.Nat.{ℕ, _<_}
+use lib.ListN.{getD, length, length-map}
+use Rattle.sequences.specs.Members.{_∈_}
+use Rattle.sequences.proofs.Members.{getD-in}
 use Rattle.sequences.proofs.Parts.{getD-map}
+use Rattle.timestamps.specs.Composite.{members}
 use Rattle.occurrences.specs.declared.Occurrence.{Occurrence}
 use Rattle.occurrences.specs.Occurrences.{blank}
-use Rattle.occurrences.specs.Packed.{held, occurrenceOf}
+use Rattle.occurrences.specs.Packed.{Notes, Sound, Stand, Stands, Within, occurrenceOf}
+use Rattle.occurrences.proofs.Seen.{sound-within}
 
-pub length-held : (ticks : List ℕ) (row : List (List ℕ)) (n : ℕ) → length (held ticks row n) ≡ min n (length row)
-length-held ticks row n = length-take n (map (occurrenceOf ticks) row) ∙ ap (min n) (length-map row (occurrenceOf ticks))
+module _ {ticks globals : List ℕ} (t : Notes ticks globals) where
+  pub stand-none : Stand t [] []
+  stand-none = record { same = refl; sound = λ p m. absurd (List·Memᴰ·not-nil m) }
 
-pub held-at : (ticks : List ℕ) (row : List (List ℕ)) (n i : ℕ) → i < n → i < length row → getD (held ticks row n) i blank ≡ occurrenceOf ticks (getD row i [])
-held-at ticks row n i h k = getD-take n (map (occurrenceOf ticks) row) i blank h ∙ getD-map (occurrenceOf ticks) row i [] blank k
+  pub stand-length : (ps : List (List ℕ)) (l : List Occurrence) → Stand t ps l → length ps ≡ length l
+  stand-length ps l h = sym (length-map ps (occurrenceOf ticks)) ∙ ap length (h .same)
 
-pub held-more : (ticks : List ℕ) (row : List (List ℕ)) (n : ℕ) (o : List ℕ) → n < length row → held ticks (set row n o) (n + 1) ≡ held ticks row n ++ (occurrenceOf ticks o ∷ [])
-held-more ticks row n o h =
-    ap (take (n + 1)) (map-set (occurrenceOf ticks) row n o)
-    ∙ append-room (length row) (map (occurrenceOf ticks) row) n (length-map row (occurrenceOf ticks)) (occurrenceOf ticks o) h
+  -- one more
+  pub stand-more : {ps : List (List ℕ)} {l : List Occurrence} {p : List ℕ} {o : Occurrence} → Stand t ps l → Stands t p o → Stand t (ps ++ (p ∷ [])) (l ++ (o ∷ []))
+  stand-more {ps} {p = p} h s = record {
+    same = map-append (occurrenceOf ticks) ps (p ∷ []) ∙ ap₂ (λ m x. m ++ (x ∷ [])) (h .same) (s .same);
+    sound = λ q m. ⊎-elim (h .sound q) (λ i. subst (Sound t) (sym (List·Memᴰ·eq-of-singleton i)) (s .sound)) (List·Memᴰ·append-cases ps m);
+  }
 
--- another at a place, as the whole row stands for it
-pub held-set : (ticks : List ℕ) (row : List (List ℕ)) (n i : ℕ) (o : List ℕ) → held ticks (set row i o) n ≡ take n (set (map (occurrenceOf ticks) row) i (occurrenceOf ticks o))
-held-set ticks row n i o = ap (take n) (map-set (occurrenceOf ticks) row i o)
+  -- what stands at a place
+  pub stand-at : (ps : List (List ℕ)) (l : List Occurrence) (i : ℕ) → Stand t ps l → i < length ps → Stands t (getD ps i []) (getD l i blank)
+  stand-at ps l i h k = record {
+    same = sym (getD-map (occurrenceOf ticks) ps i [] blank k) ∙ ap (λ m. getD m i blank) (h .same);
+    sound = h .sound (getD ps i []) (getD-in ps i [] k);
+  }
+
+  pub stands-within : (p : List ℕ) (o : Occurrence) → Stands t p o → Within ticks globals p
+  stands-within p o h = sound-within t p (h .sound)

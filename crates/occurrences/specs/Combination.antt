@@ -6,6 +6,7 @@ use Rattle.event_sets.specs.Sets.{noEvents, unionOf}
 use Rattle.timestamps.specs.declared.Timestamp.{Timestamp}
 use Rattle.timestamps.specs.Composite.{members}
 use Rattle.timestamps.specs.Join.{joinOf}
+use Rattle.timestamps.specs.Order.{Clocks}
 use Rattle.occurrences.specs.declared.Occurrence.{Occurrence}
 
 -- the stamps of all parts
@@ -19,9 +20,9 @@ eventsOf [] = noEvents
 eventsOf (o ∷ parts) = unionOf (o .events) (eventsOf parts)
 
 -- the combination of one or more parts
-unfoldable pub combinationOf : ℕ → List Occurrence → Occurrence
-combinationOf ratio parts = record { latest = joinOf ratio (stampsOf parts); events = eventsOf parts }
+unfoldable pub combinationOf : Clocks → List Occurrence → Occurrence
+combinationOf clocks parts = record { latest = joinOf clocks (stampsOf parts); events = eventsOf parts }
 
 -- the combination of two
-unfoldable pub combinedOf : ℕ → Occurrence → Occurrence → Occurrence
-combinedOf ratio a b = record { latest = joinOf ratio (members (a .latest) ++ members (b .latest)); events = unionOf (a .events) (b .events) }
+unfoldable pub combinedOf : Clocks → Occurrence → Occurrence → Occurrence
+combinedOf clocks a b = record { latest = joinOf clocks (members (a .latest) ++ members (b .latest)); events = unionOf (a .events) (b .events) }

@@ -6,6 +6,7 @@ use Rattle.event_sets.specs.Sets.{markedWith, noEvents}
 use Rattle.timestamps.specs.declared.Timestamp.{Timestamp}
 use Rattle.timestamps.specs.Comparison.{allBefore}
 use Rattle.timestamps.specs.Composite.{compositeOf, members, noTimestamps}
+use Rattle.timestamps.specs.Order.{Clocks}
 use Rattle.occurrences.specs.declared.Occurrence.{Occurrence}
 
 -- a file event: one stamp and its own number
@@ -13,8 +14,8 @@ unfoldable pub ofEvent : Timestamp → ℕ → Occurrence
 ofEvent s number = record { latest = compositeOf (s ∷ []); events = markedWith noEvents number }
 
 -- a's stamp is before b's
-unfoldable pub isBefore : ℕ → Occurrence → Occurrence → Bool
-isBefore ratio a b = allBefore ratio (members (a .latest)) (members (b .latest))
+unfoldable pub isBefore : Clocks → Occurrence → Occurrence → Bool
+isBefore clocks a b = allBefore clocks (members (a .latest)) (members (b .latest))
 
 -- what stands in a place where there is no occurrence
 abbrev pub noOccurrence : Occurrence

@@ -1,16 +1,19 @@
-// Occurrences: a composite timestamp and a set of events, packed into three numbers beside a table of ticks (specs/Packed.antt), and how they combine.
+// Occurrences: a composite timestamp and a set of events, packed into three numbers beside what is noted of the events (specs/Packed.antt), and how they
+// combine. One logger is compared by local ticks, two by global ticks; nothing here divides.
 use event_sets::EventSet;
 use timestamps::CompositeTimestamp;
+use timestamps::GlobalTick;
 use timestamps::LocalTick;
-ghost use mathlib.Core.Bool.{true, false};
 ghost use mathlib.Core.List.{List};
 ghost use mathlib.Core.Path.{_≡_};
-ghost use Prim.Native.Nat.{ℕ, _<_, _≤_, _+_, _-_, _%_, _^_, max};
-ghost use lib.ListN.{getD};
+ghost use Prim.Native.Nat.{ℕ, _<_, _+_, _%_, _^_};
+ghost use lib.ListN.{getD, length};
+ghost use Rattle.occurrences.specs.declared.Occurrence.{Occurrence};
 ghost use Rattle.occurrences.specs.Combination.{combinedOf};
 ghost use Rattle.occurrences.specs.Occurrences.{isBefore, ofEvent};
-ghost use Rattle.occurrences.specs.Packed.{byteAt, occurrenceOf, wordsOf};
-ghost use Rattle.occurrences.specs.Steps.{Highest, Lower, Lowest, LowestOf, Named, clearOf, floorOf, joinedStamps, keptOf, laterAt, laterOf, ownBefore, stampsIn, tickAt};
+ghost use Rattle.occurrences.specs.Packed.{Notes, Stands, Within, byteAt, wordsOf};
+ghost use Rattle.occurrences.specs.Steps.{Bytes, Decided, Highest, Inside, Lowest, LowestOf, hasBefore, keptOf, laterAt, laterOf, noteAt, ownBefore};
+ghost use Rattle.timestamps.specs.Order.{blank};
 
 // Document 01's occurrence: its composite stamp and its events.
 pub struct Occurrence {
@@ -18,20 +21,33 @@ pub struct Occurrence {
     pub events: EventSet,
 }
 
-// A file event: one timestamp, which the table has at its number plus one, and its own number.
-pub fn of_event(logger: u8, number: usize) -> [u64; 3]
-    requires { ⌜ number < 128 ⌝ }
-    ensures { λ r. ⌜ ((ticks : List ℕ) (tick : ℕ) → getD ticks 0 0 ≡ 0 → getD ticks (number + 1) 0 ≡ tick + 1 → occurrenceOf ticks r ≡ ofEvent (record { logger = logger; tick = record { 0 = tick } }) number) ⌝ }
+// An occurrence as the code holds it: the bits of its events in two numbers, and a byte for each logger place.
+pub type Packed = [u64; 3];
+
+// A file event: one timestamp, which is noted at its number plus one, and its own number.
+pub fn of_event(logger: u8, number: usize) -> Packed
+    requires { ⌜ (number < 128) × (logger < 8) ⌝ }
+    ensures { λ r. ⌜ ((ticks globals : List ℕ) (t : Notes ticks globals)
+        → number < length (t .stamps) → getD (t .stamps) number blank .logger ≡ logger
+        → Stands t r (ofEvent (getD (t .stamps) number blank) number)) ⌝ }
 {
     let none = EventSet::none();
     let events = event_sets::marked(none, number);
     let mut c = [0u64; 3];
     c[0] = events.low;
     c[1] = events.high;
-    if logger < 8 {
-        c[2] = (number as u64 + 1) << (8 * logger as usize);
-    }
+    c[2] = (number as u64 + 1) << (8 * logger as usize);
     c
+}
+
+// Its events.
+pub fn events_of(o: &Packed) -> EventSet
+    ensures { λ r. ⌜ r ≡ record { low = getD (now (o .entry)) 0 0; high = getD (now (o .entry)) 1 0 } ⌝ }
+{
+    EventSet {
+        low: o[0],
+        high: o[1],
+    }
 }
 
 // Which event has the timestamp of a logger place: its number plus one, 0 for none.
@@ -42,56 +58,45 @@ fn event_at(w: u64, k: usize) -> usize
     ((w >> (8 * k)) % 256) as usize
 }
 
-// The timestamp at a logger place: its tick plus one, 0 for none.
-pub fn word_at(o: &[u64; 3], ticks: &[u64; 256], k: usize) -> u64
-    requires { ⌜ k < 8 ⌝ }
+// The timestamp at a logger place: its local tick plus one, 0 for none.
+pub fn word_at(o: &Packed, ticks: &[u64], k: usize) -> u64
+    requires { ⌜ (k < 8) × (byteAt (getD (now o) 2 0) k < length (now ticks)) ⌝ }
     ensures { λ r. ⌜ r ≡ getD (wordsOf (now (ticks .entry)) (now (o .entry))) (2 + k) 0 ⌝ }
 {
     ticks[event_at(o[2], k)]
 }
 
-fn tick_of(w: u64) -> LocalTick
-    ensures { λ r. ⌜ r ≡ record { 0 = w - 1 } ⌝ }
-{
-    if w == 0 {
-        LocalTick(0)
-    } else {
-        LocalTick(w - 1)
-    }
-}
-
 // ---- the join
 
-fn larger(a: u64, b: u64) -> u64
-    ensures { λ r. ⌜ r ≡ max a b ⌝ }
+// Of two events of one logger the one with the later local tick; both plus one.
+fn later_of(i: usize, j: usize, ticks: &[u64]) -> usize
+    requires { ⌜ (i < length (now ticks)) × (j < length (now ticks)) ⌝ }
+    ensures { λ r. ⌜ r ≡ laterOf (now (ticks .entry)) i j ⌝ }
 {
-    if a < b { b } else { a }
+    let s = LocalTick(ticks[i]);
+    let t = LocalTick(ticks[j]);
+    if s.earlier(t) { j } else { i }
 }
 
-// Of two events the one with the later timestamp.
-fn later_of(i: usize, j: usize, ticks: &[u64; 256]) -> usize
-    requires { ⌜ (i < 256) × (j < 256) ⌝ }
-    ensures { λ r. ⌜ (r < 256) × (getD (now (ticks .entry)) r 0 ≡ max (getD (now (ticks .entry)) i 0) (getD (now (ticks .entry)) j 0)) ⌝ }
-{
-    if ticks[i] < ticks[j] { j } else { i }
-}
-
-// Which events have the later timestamps, and the latest of these.
+// Which events have the later timestamps, and the highest global tick of these plus one.
 struct Merge {
     events: u64,
-    highest: u64,
+    highest: GlobalTick,
 }
 
 // At the first four logger places the later timestamp of each.
-fn merged_of_four(a: u64, b: u64, ticks: &[u64; 256]) -> Merge
-    ensures { λ r. ⌜ Named (now (ticks .entry)) 4 (laterAt (now (ticks .entry)) a b) (r .events) × Highest 4 (laterAt (now (ticks .entry)) a b) (r .highest) ⌝ }
+fn merged_of_four(a: u64, b: u64, ticks: &[u64], globals: &[u64]) -> Merge
+    requires { ⌜ Inside 4 (now ticks) a × Inside 4 (now ticks) b × Inside 4 (now globals) a × Inside 4 (now globals) b ⌝ }
+    ensures { λ r. ⌜ Bytes 4 (laterAt (now (ticks .entry)) a b) (r .events)
+        × Highest 4 (λ k. getD (now (globals .entry)) (laterAt (now (ticks .entry)) a b k) 0) (r .highest .0) ⌝ }
 {
     let mut r: u64 = 0;
-    let mut h: u64 = 0;
+    let mut h = GlobalTick(0);
     let mut k: usize = 0;
     while k < 4 {
         let n = later_of(event_at(a, k), event_at(b, k), ticks);
-        h = larger(h, ticks[n]);
+        let g = GlobalTick(globals[n]);
+        h = h.latest(g);
         r = r | (n as u64) << (8 * k);
         k = k + 1;
     }
@@ -102,206 +107,176 @@ fn merged_of_four(a: u64, b: u64, ticks: &[u64; 256]) -> Merge
 }
 
 // Of each logger the later timestamp.
-fn merged(a: u64, b: u64, ticks: &[u64; 256]) -> Merge
-    requires { ⌜ getD (now ticks) 0 0 ≡ 0 ⌝ }
-    ensures { λ r. ⌜ Named (now (ticks .entry)) 8 (laterAt (now (ticks .entry)) a b) (r .events) × Highest 8 (laterAt (now (ticks .entry)) a b) (r .highest) ⌝ }
+fn merged(a: u64, b: u64, ticks: &[u64], globals: &[u64]) -> Merge
+    requires { ⌜ Inside 8 (now ticks) a × Inside 8 (now ticks) b × Inside 8 (now globals) a × Inside 8 (now globals) b ⌝ }
+    ensures { λ r. ⌜ Bytes 8 (laterAt (now (ticks .entry)) a b) (r .events)
+        × (getD (now (globals .entry)) 0 0 ≡ 0
+        → Highest 8 (λ k. getD (now (globals .entry)) (laterAt (now (ticks .entry)) a b k) 0) (r .highest .0)) ⌝ }
 {
-    let low = merged_of_four(a, b, ticks);
+    let low = merged_of_four(a, b, ticks, globals);
     if (a | b) >> 32 == 0 {
         return low;
     }
-    let high = merged_of_four(a >> 32, b >> 32, ticks);
+    let high = merged_of_four(a >> 32, b >> 32, ticks, globals);
+    let first = low.highest;
+    let second = high.highest;
     Merge {
         events: low.events | high.events << 32,
-        highest: larger(low.highest, high.highest),
+        highest: first.latest(second),
     }
 }
 
-// The first that is not clearly earlier than w; numbers as they are packed.
-fn floor(w: u64, ratio: u64) -> u64
-    ensures { λ r. ⌜ r ≡ floorOf ratio w ⌝ }
+// The event i, unless its global tick is clearly earlier than the highest; both plus one.
+fn kept(i: usize, highest: GlobalTick, globals: &[u64]) -> usize
+    requires { ⌜ i < length (now globals) ⌝ }
+    ensures { λ r. ⌜ r ≡ keptOf (now (globals .entry)) (highest .0) i ⌝ }
 {
-    let t = tick_of(w);
-    let g = t.global(ratio);
-    if g.0 == 0 { 1 } else { (g.0 - 1) * ratio + 1 }
+    let g = GlobalTick(globals[i]);
+    if g.clearly_earlier(highest) { 0 } else { i }
 }
 
-// The event i, unless its timestamp is below f.
-fn kept(i: usize, f: u64, ticks: &[u64; 256]) -> usize
-    requires { ⌜ (i < 256) × (getD (now ticks) 0 0 ≡ 0) ⌝ }
-    ensures { λ r. ⌜ (r < 256) × (getD (now (ticks .entry)) r 0 ≡ keptOf f (getD (now (ticks .entry)) i 0)) ⌝ }
-{
-    if ticks[i] < f { 0 } else { i }
-}
-
-// At the first four logger places those that are not below the floor.
-fn settled_of_four(c: u64, f: u64, ticks: &[u64; 256]) -> u64
-    requires { ⌜ getD (now ticks) 0 0 ≡ 0 ⌝ }
-    ensures { λ r. ⌜ Named (now (ticks .entry)) 4 (λ k. keptOf f (tickAt (now (ticks .entry)) c k)) r ⌝ }
+// At the first four logger places those that are not clearly earlier.
+fn settled_of_four(c: u64, highest: GlobalTick, globals: &[u64]) -> u64
+    requires { ⌜ Inside 4 (now globals) c ⌝ }
+    ensures { λ r. ⌜ Bytes 4 (λ k. keptOf (now (globals .entry)) (highest .0) (byteAt c k)) r ⌝ }
 {
     let mut r: u64 = 0;
     let mut k: usize = 0;
     while k < 4 {
-        let n = kept(event_at(c, k), f, ticks);
+        let n = kept(event_at(c, k), highest, globals);
         r = r | (n as u64) << (8 * k);
         k = k + 1;
     }
     r
 }
 
-// Those that are not below the floor.
-fn settled(c: u64, f: u64, ticks: &[u64; 256]) -> u64
-    requires { ⌜ getD (now ticks) 0 0 ≡ 0 ⌝ }
-    ensures { λ r. ⌜ Named (now (ticks .entry)) 8 (λ k. keptOf f (tickAt (now (ticks .entry)) c k)) r ⌝ }
+// Those that are not clearly earlier.
+fn settled(c: u64, highest: GlobalTick, globals: &[u64]) -> u64
+    requires { ⌜ Inside 8 (now globals) c ⌝ }
+    ensures { λ r. ⌜ Bytes 8 (λ k. keptOf (now (globals .entry)) (highest .0) (byteAt c k)) r ⌝ }
 {
-    let low = settled_of_four(c, f, ticks);
+    let low = settled_of_four(c, highest, globals);
     if c >> 32 == 0 {
         return low;
     }
-    low | settled_of_four(c >> 32, f, ticks) << 32
+    low | settled_of_four(c >> 32, highest, globals) << 32
 }
 
-// The join of the timestamps: of the later ones those that are not below the floor of the latest.
-fn stamps_joined(a: u64, b: u64, ticks: &[u64; 256], ratio: u64) -> u64
-    requires { ⌜ getD (now ticks) 0 0 ≡ 0 ⌝ }
-    ensures { λ r. ⌜ stampsIn (now (ticks .entry)) r ≡ joinedStamps ratio (now (ticks .entry)) a b ⌝ }
+// The combination of two: of each logger the later timestamp, of these those that are not clearly earlier than the highest, and the union of the events.
+pub fn combined(a: &Packed, b: &Packed, ticks: &[u64], globals: &[u64]) -> Packed
+    requires { ⌜ Within (now ticks) (now globals) (now a) × Within (now ticks) (now globals) (now b) ⌝ }
+    ensures { λ r. ⌜ ((t : Notes (now (ticks .entry)) (now (globals .entry))) (x y : Occurrence)
+        → Stands t (now (a .entry)) x → Stands t (now (b .entry)) y
+        → Stands t r (combinedOf (t .clocks) x y)) ⌝ }
 {
-    let m = merged(a, b, ticks);
-    let f = floor(m.highest, ratio);
-    settled(m.events, f, ticks)
-}
-
-// The combination of two: the join of their timestamps and the union of their events.
-pub fn combined(a: &[u64; 3], b: &[u64; 3], ticks: &[u64; 256], ratio: u64) -> [u64; 3]
-    requires { ⌜ getD (now ticks) 0 0 ≡ 0 ⌝ }
-    ensures { λ r. ⌜ occurrenceOf (now (ticks .entry)) r ≡ combinedOf ratio (occurrenceOf (now (ticks .entry)) (now (a .entry))) (occurrenceOf (now (ticks .entry)) (now (b .entry))) ⌝ }
-{
+    let m = merged(a[2], b[2], ticks, globals);
+    let events = event_sets::union(events_of(a), events_of(b));
     let mut c = [0u64; 3];
-    c[0] = a[0] | b[0];
-    c[1] = a[1] | b[1];
-    c[2] = stamps_joined(a[2], b[2], ticks, ratio);
+    c[0] = events.low;
+    c[1] = events.high;
+    c[2] = settled(m.events, m.highest, globals);
     c
 }
 
 // ---- the order
 
-// The earlier of two ticks; the largest number stands for none, which is one below the word 0.
-fn lower(low: u64, t: u64) -> u64
-    ensures { λ r. ⌜ Lower ((low + 1) % 2 ^ 64) ((t + 1) % 2 ^ 64) ((r + 1) % 2 ^ 64) ⌝ }
+// The local tick that is noted; the largest number for none.
+fn local_of(note: u64) -> LocalTick
+    ensures { λ r. ⌜ (r .0 + 1) % 2 ^ 64 ≡ note ⌝ }
 {
-    if t < low { t } else { low }
+    let tick = std::num::wrapping_sub_u64(note, 1);
+    LocalTick(tick)
 }
 
-// The earliest tick of the first four places; the largest number stands for none.
-fn lowest_of_four(w: u64, ticks: &[u64; 256]) -> u64
-    ensures { λ r. ⌜ Lowest 4 (tickAt (now (ticks .entry)) w) ((r + 1) % 2 ^ 64) ⌝ }
+// The global tick that is noted; the largest number for none.
+fn global_of(note: u64) -> GlobalTick
+    ensures { λ r. ⌜ (r .0 + 1) % 2 ^ 64 ≡ note ⌝ }
 {
-    let mut low: u64 = 18446744073709551615;
+    let tick = std::num::wrapping_sub_u64(note, 1);
+    GlobalTick(tick)
+}
+
+// The lowest global tick at the first four logger places; the largest number where there is none.
+fn lowest_of_four(w: u64, globals: &[u64]) -> GlobalTick
+    requires { ⌜ Inside 4 (now globals) w ⌝ }
+    ensures { λ r. ⌜ Lowest 4 (noteAt (now (globals .entry)) w) (r .0) ⌝ }
+{
+    let mut low = GlobalTick(18446744073709551615);
     let mut k: usize = 0;
     while k < 4 {
-        let t = std::num::wrapping_sub_u64(ticks[event_at(w, k)], 1);
-        low = lower(low, t);
+        let g = global_of(globals[event_at(w, k)]);
+        low = low.earliest(g);
         k = k + 1;
     }
     low
 }
 
-// The earliest of all timestamps, 0 where there is none. The last four places are looked at only where they have any.
-pub fn lowest(o: &[u64; 3], ticks: &[u64; 256]) -> u64
-    requires { ⌜ getD (now ticks) 0 0 ≡ 0 ⌝ }
-    ensures { λ r. ⌜ LowestOf (now (ticks .entry)) (now (o .entry)) r ⌝ }
+// The lowest of all global ticks, the largest number where there is none. The last four places are looked at only where they have any.
+pub fn lowest(o: &Packed, globals: &[u64]) -> GlobalTick
+    requires { ⌜ Inside 8 (now globals) (getD (now o) 2 0) ⌝ }
+    ensures { λ r. ⌜ (getD (now (globals .entry)) 0 0 ≡ 0 → LowestOf (now (globals .entry)) (now (o .entry)) (r .0)) ⌝ }
 {
     let w = o[2];
-    let low = lowest_of_four(w, ticks);
+    let low = lowest_of_four(w, globals);
     let high = w >> 32;
     if high == 0 {
-        return std::num::wrapping_add_u64(low, 1);
+        return low;
     }
-    std::num::wrapping_add_u64(lower(low, lowest_of_four(high, ticks)), 1)
+    low.earliest(lowest_of_four(high, globals))
 }
 
-// Whether v is one, and before w on one clock.
+// Whether v is a note, and its tick before that of the note w on one clock.
 fn own_before(v: u64, w: u64) -> bool
-    ensures { λ r. ⌜ r ≡ ownBefore v w ⌝ }
+    ensures { λ r. ⌜ (0 < w → r ≡ ownBefore v w) ⌝ }
 {
-    if v == 0 { false } else { v < w }
+    let s = local_of(v);
+    let t = local_of(w);
+    s.earlier(t)
 }
 
-// Whether low is one, and clearly earlier than w. Only where their distance does not decide it is there a division.
-fn clearly(low: u64, w: u64, ratio: u64) -> bool
-    ensures { λ r. ⌜ r ≡ clearOf ratio low w ⌝ }
+// Whether the event j of the second, at one logger place, has a timestamp before it: there the event i of the first, or of any logger the lowest of the first.
+fn has_before(low: GlobalTick, i: usize, j: usize, ticks: &[u64], globals: &[u64]) -> bool
+    requires { ⌜ (i < length (now ticks)) × (j < length (now ticks)) × (j < length (now globals)) ⌝ }
+    ensures { λ r. ⌜ ((0 < getD (now (ticks .entry)) j 0 → 0 < getD (now (globals .entry)) j 0)
+        → r ≡ hasBefore (low .0) (getD (now (ticks .entry)) i 0) (getD (now (ticks .entry)) j 0) (getD (now (globals .entry)) j 0)) ⌝ }
 {
-    if low == 0 {
-        return false;
-    }
-    if w <= low {
-        return false;
-    }
-    let d = w - low;
-    if d <= ratio {
-        return false;
-    }
-    if ratio <= d - ratio {
-        return 0 < ratio;
-    }
-    low < floor(w, ratio)
-}
-
-// Whether w, if it is one, has a timestamp before it: of its own logger v, or of any the lowest.
-fn later(low: u64, v: u64, w: u64, ratio: u64) -> bool
-    ensures { λ r. ⌜ r ≡ laterOf ratio low v w ⌝ }
-{
+    let w = ticks[j];
     if w == 0 {
         return true;
     }
-    if own_before(v, w) {
+    if own_before(ticks[i], w) {
         return true;
     }
-    clearly(low, w, ratio)
+    let g = global_of(globals[j]);
+    low.clearly_earlier(g)
 }
 
-// Whether low is two ratios or more before w, so that it is clearly earlier than w and all after it.
-fn is_far(low: u64, w: u64, ratio: u64) -> bool
-    ensures { λ r. ⌜ (r ≡ true → (v : ℕ) → w ≤ v → clearOf ratio low v ≡ true) ⌝ }
-{
-    if low == 0 {
-        return false;
-    }
-    if w <= low {
-        return false;
-    }
-    let d = w - low;
-    if d <= ratio {
-        return false;
-    }
-    if d - ratio < ratio {
-        return false;
-    }
-    0 < ratio
-}
-
-// Whether the lowest timestamps of two decide if the first composite timestamp is before the second: 1 where it is, 0 where it is not, 2 where every
+// Whether the lowest global ticks of two decide if the first composite timestamp is before the second: 1 where it is, 0 where it is not, 2 where every
 // place has to be looked at.
-pub fn decided(low: u64, first: u64, ratio: u64) -> u8
-    ensures { λ r. ⌜ ((ticks a b : List ℕ) → LowestOf ticks a low → LowestOf ticks b first → (r ≡ 0 → isBefore ratio (occurrenceOf ticks a) (occurrenceOf ticks b) ≡ false) × (r ≡ 1 → isBefore ratio (occurrenceOf ticks a) (occurrenceOf ticks b) ≡ true)) ⌝ }
+pub fn decided(low: GlobalTick, first: GlobalTick) -> u8
+    ensures { λ r. ⌜ ((ticks globals a b : List ℕ) (t : Notes ticks globals) (x y : Occurrence) → Stands t a x → Stands t b y
+        → LowestOf globals a (low .0) → LowestOf globals b (first .0)
+        → Decided (isBefore (t .clocks) x y) r) ⌝ }
 {
-    if std::num::wrapping_sub_u64(first, 1) < low {
+    if first.earlier(low) {
         return 0;
     }
-    if is_far(low, first, ratio) {
+    if low.clearly_earlier(first) {
         return 1;
     }
     2
 }
 
-// Whether the first one's composite timestamp is before the second's, place by place; the lowest timestamp of the first is what the caller has.
-pub fn before(low: u64, a: &[u64; 3], b: &[u64; 3], ticks: &[u64; 256], ratio: u64) -> bool
-    requires { ⌜ LowestOf (now ticks) (now a) low ⌝ }
-    ensures { λ r. ⌜ r ≡ isBefore ratio (occurrenceOf (now (ticks .entry)) (now (a .entry))) (occurrenceOf (now (ticks .entry)) (now (b .entry))) ⌝ }
+// Whether the first one's composite timestamp is before the second's, place by place; the lowest global tick of the first is what the caller has.
+pub fn before(low: GlobalTick, a: &Packed, b: &Packed, ticks: &[u64], globals: &[u64]) -> bool
+    requires { ⌜ Within (now ticks) (now globals) (now a) × Within (now ticks) (now globals) (now b) ⌝ }
+    ensures { λ r. ⌜ ((t : Notes (now (ticks .entry)) (now (globals .entry))) (x y : Occurrence)
+        → LowestOf (now (globals .entry)) (now (a .entry)) (low .0) → Stands t (now (a .entry)) x → Stands t (now (b .entry)) y
+        → r ≡ isBefore (t .clocks) x y) ⌝ }
 {
     let mut k: usize = 0;
     while k < 8 {
-        if !later(low, word_at(a, ticks, k), word_at(b, ticks, k), ratio) {
+        if !has_before(low, event_at(a[2], k), event_at(b[2], k), ticks, globals) {
             return false;
         }
         k = k + 1;

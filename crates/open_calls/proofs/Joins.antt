@@ -1,82 +1,168 @@
--- The join call's steps give its answer.
-use mathlib.Core.Path.{_≡_, refl, ap, _∙_}
-use mathlib.Core.Bool.{true, false, not}
-use mathlib.Core.List.{List, [], _∷_}
+-- A list judged and joined, entry by entry, and the answer that it gives.
+use mathlib.Core.Path.{_≡_, refl, sym, ap, _∙_}
+use mathlib.Core.Bool.{true, false, not, _&&_, and-true}
+use mathlib.Core.List.{List, [], _∷_, _++_, List·Memᴰ·not-nil}
 use mathlib.Core.Logic.{⊎-elim}
-use Prim.Native.Nat.{ℕ, suc, _+_}
+use Prim.Native.Nat.{ℕ, suc, _+_, _≤_, _<_}
 use native.Mathlib.Omega.{arith}
-use lib.ListN.{length}
-use Rattle.sequences.specs.Loops.{fold}
+use lib.ListN.{getD, getD-replicate, length, replicate, take}
+use lib.Seq.{length-take-le, take-all, take-suc}
+use Rattle.sequences.specs.Choice.{pick}
+use Rattle.sequences.specs.Members.{_∈_}
 use Rattle.sequences.specs.Select.{all}
-use Rattle.sequences.proofs.Booleans.{either-way, never-both, and-left, and-right}
-use Rattle.sequences.proofs.Loops.{fold-none, fold-next}
+use Rattle.sequences.proofs.Booleans.{and-left, and-right, either-way, never-both}
 use Rattle.timestamps.specs.declared.Timestamp.{Timestamp}
-use Rattle.timestamps.specs.Order.{valid, validRatio}
-use Rattle.timestamps.proofs.Groupings.{valid-placeable}
-use Rattle.timestamps.proofs.Join.{joinOf-list}
+use Rattle.timestamps.specs.Composite.{members}
+use Rattle.timestamps.specs.Join.{joinOf}
+use Rattle.timestamps.specs.Order.{Clocks, before, blank, clocksOf, valid, validRatio}
+use Rattle.timestamps.proofs.Join.{members-joinOf}
+use Rattle.timestamps.proofs.Maxima.{maxima-of}
+use Rattle.open_calls.specs.declared.JoinAnswer.{JoinAnswer}
 use Rattle.open_calls.specs.declared.Joining.{Joining}
-use Rattle.open_calls.specs.declared.Verdict.the-variants.{Accepted, BadEntry}
-use Rattle.open_calls.specs.Answers.{numberOf, refusal, validLength, refusedJoin, firstInvalid, joinAnswer}
-use Rattle.open_calls.specs.Steps.{joinVerdict, joiningOf, noMarks, nothingJudged, joinStart, joinStep, foldJoin, joinDone, joinRun}
-use Rattle.open_calls.specs.Marks.{raisedBy}
-use Rattle.open_calls.proofs.Folds.{join-none, join-next}
-use Rattle.open_calls.proofs.Marks.{latest-is, none-is}
+use Rattle.open_calls.specs.declared.Judged.{Judged}
+use Rattle.open_calls.specs.declared.Verdict.the-variants.{BadEntry}
+use Rattle.open_calls.specs.Answers.{firstInvalid, joinAnswer, numberOf, refusal, refusedJoin, shown, validLength}
+use Rattle.open_calls.specs.Notes.{Joined, noteAt, shownFrom}
+use Rattle.open_calls.specs.Steps.{Joins, joinVerdict, joiningOf, judgedOf, nothingJudged}
+use Rattle.open_calls.proofs.Notes.{noted-by, shown-is}
 
--- ---- the fold: after a bad entry nothing changes
-still : (i : ℕ) (a : Joining) (l : List Timestamp) → refusal (a .judged .verdict) ≡ true → foldJoin i a l ≡ a
-unfolding joinStep
-still i a [] r = join-none i a
-still i a (s ∷ l) r = join-next i a s l ∙ rw r (still (suc i) a l r)
+-- ---- how a list is judged
+module _ (s : Timestamp) where
+  all-more : (l : List Timestamp) → all valid (l ++ (s ∷ [])) ≡ (all valid l && valid s)
+  unfolding all
+  all-more [] = and-true (valid s)
+  all-more (t ∷ l) = ⊎-elim (λ y. rw y (all-more l)) (λ z. rw z) (either-way (valid t))
 
--- every entry passes: the latest of each logger
-all-good : (i : ℕ) (m : List ℕ) (l : List Timestamp) → all valid l ≡ true
-    → foldJoin i (joiningOf nothingJudged m) l ≡ joiningOf nothingJudged (fold raisedBy l m)
-unfolding all joinStep refusal numberOf
-all-good i m [] h = join-none i (joiningOf nothingJudged m) ∙ rw (fold-none raisedBy m)
-all-good i m (s ∷ l) h =
-    join-next i (joiningOf nothingJudged m) s l
-    ∙ rw (and-left (valid s) (all valid l) h, fold-next raisedBy s l m) (all-good (suc i) (raisedBy m s) l (and-right (valid s) (all valid l) h))
+  -- the first bad entry stays the first
+  first-kept : (l : List Timestamp) → all valid l ≡ false → firstInvalid (l ++ (s ∷ [])) ≡ firstInvalid l
+  unfolding all firstInvalid
+  first-kept [] b = absurd (never-both refl b)
+  first-kept (t ∷ l) b = ⊎-elim (λ y. rw y (ap suc (first-kept l (rw y at b)))) (λ z. rw z) (either-way (valid t))
 
--- some entry does not: its place
-pub record Bad (i : ℕ) (l : List Timestamp) (a : Joining) : Type 0 where
-  verdict : a .judged .verdict ≡ BadEntry
-  place : a .judged .place ≡ i + firstInvalid l
+  first-last : (l : List Timestamp) → all valid l ≡ true → valid s ≡ false → firstInvalid (l ++ (s ∷ [])) ≡ length l
+  unfolding all firstInvalid
+  first-last [] b z = rw z
+  first-last (t ∷ l) b z = rw (and-left (valid t) (all valid l) b) (ap suc (first-last l (and-right (valid t) (all valid l) b) z))
 
-first-good : (s : Timestamp) (l : List Timestamp) → valid s ≡ true → firstInvalid (s ∷ l) ≡ suc (firstInvalid l)
-unfolding firstInvalid
-first-good s l y = rw y
+judged-good : (l : List Timestamp) → all valid l ≡ true → judgedOf l ≡ nothingJudged
+unfolding judgedOf
+judged-good l y = rw y
 
-first-bad : (s : Timestamp) (l : List Timestamp) → valid s ≡ false → firstInvalid (s ∷ l) ≡ 0
-unfolding firstInvalid
-first-bad s l n = rw n
+judged-bad : (l : List Timestamp) → all valid l ≡ false → judgedOf l ≡ record { verdict = BadEntry; place = firstInvalid l }
+unfolding judgedOf
+judged-bad l z = rw z
 
-some-bad : (i : ℕ) (m : List ℕ) (l : List Timestamp) → all valid l ≡ false → Bad i l (foldJoin i (joiningOf nothingJudged m) l)
-unfolding all joinStep refusal numberOf
-some-bad i m [] h = absurd (never-both refl h)
-some-bad i m (s ∷ l) h = rw (join-next i (joiningOf nothingJudged m) s l) (⊎-elim (λ y. passes y (some-bad (suc i) (raisedBy m s) l (rw y at h))) fails (either-way (valid s)))
+-- turned back or not, by its entries
+refused-is : (l : List Timestamp) → refusal (judgedOf l .verdict) ≡ not (all valid l)
+unfolding refusal numberOf
+refused-is l = ⊎-elim (λ y. rw (judged-good l y, y)) (λ z. rw (judged-bad l z, z)) (either-way (all valid l))
+
+module _ (l : List Timestamp) (judged : Judged) (e : judged ≡ judgedOf l) where
+  told : refusal (judged .verdict) ≡ not (all valid l)
+  told = ap (λ (x : Judged). refusal (x .verdict)) e ∙ refused-is l
+
+  all-good : refusal (judged .verdict) ≡ false → all valid l ≡ true
+  all-good r = ⊎-elim (λ y. y) (λ z. absurd (never-both (told ∙ ap not z) r)) (either-way (all valid l))
+
+  some-bad : refusal (judged .verdict) ≡ true → all valid l ≡ false
+  some-bad r = ⊎-elim (λ y. absurd (never-both r (told ∙ ap not y))) (λ z. z) (either-way (all valid l))
+
+-- ---- nothing yet
+abbrev pub noNotes : List ℕ
+noNotes = replicate 17 0
+
+pub joins-none : (clocks : Clocks) → Joins clocks [] (joiningOf nothingJudged noNotes)
+unfolding judgedOf all
+joins-none clocks = record {
+  judged = refl;
+  joined = λ v. noted-by clocks (joinOf clocks []) noNotes
+      (λ s h e. absurd (let z : noteAt noNotes (s .logger) ≡ 0 = getD-replicate 17 (s .logger) 0 0 (omega arith) in omega arith))
+      (λ s m. absurd (nobody s m))
+      (λ k h e. getD-replicate 17 (8 + k) 0 0 (omega arith))
+      refl
+      (record { most = λ s m. absurd (nobody s m); some = λ h. absurd (omega (arith, h)) });
+}
   where
-    passes : valid s ≡ true → Bad (suc i) l (foldJoin (suc i) (joiningOf nothingJudged (raisedBy m s)) l)
-        → Bad i (s ∷ l) (foldJoin (suc i) (joinStep (joiningOf nothingJudged m) s i) l)
-    passes y b = rw y (record { verdict = b .verdict; place = b .place ∙ omega (arith, first-good s l y) })
+    nobody : (s : Timestamp) → s ∈ members (joinOf clocks []) → ⊥
+    nobody s m = List·Memᴰ·not-nil (maxima-of (before clocks) [] s (members-joinOf clocks [] (λ t i. absurd (List·Memᴰ·not-nil i)) .0 s m) .0)
 
-    fails : valid s ≡ false → Bad i (s ∷ l) (foldJoin (suc i) (joinStep (joiningOf nothingJudged m) s i) l)
-    fails n = rw (n, still (suc i) (joiningOf (record { verdict = BadEntry; place = i }) m) l refl) (record { verdict = refl; place = omega (arith, first-bad s l n) })
+-- ---- one entry more
+module _ (clocks : Clocks) (l : List Timestamp) (s : Timestamp) (a : Joining) (j : Joins clocks l a) where
+  -- after a bad one nothing changes
+  pub step-refused : refusal (a .judged .verdict) ≡ true → Joins clocks (l ++ (s ∷ [])) a
+  step-refused r =
+      let z : all valid l ≡ false = some-bad l (a .judged) (j .judged) r in
+      let b : all valid (l ++ (s ∷ [])) ≡ false = all-more s l ∙ rw z in
+      record {
+        judged = j .judged ∙ judged-bad l z ∙ (λ i. record { verdict = BadEntry; place = sym (first-kept s l z) i }) ∙ sym (judged-bad (l ++ (s ∷ [])) b);
+        joined = λ y. absurd (never-both y b);
+      }
+
+  -- a good one is added
+  pub step-good : (notes : List ℕ) → refusal (a .judged .verdict) ≡ false → valid s ≡ true
+      → (all valid l ≡ true → Joined clocks l (a .join) → Joined clocks (l ++ (s ∷ [])) notes)
+      → Joins clocks (l ++ (s ∷ [])) (joiningOf nothingJudged notes)
+  step-good notes r v added =
+      let y : all valid l ≡ true = all-good l (a .judged) (j .judged) r in
+      record {
+        judged = sym (judged-good (l ++ (s ∷ [])) (all-more s l ∙ rw (y, v)));
+        joined = λ w. added y (j .joined y);
+      }
+
+  -- a bad one turns the list back
+  pub step-bad : (i : ℕ) → length l ≡ i → refusal (a .judged .verdict) ≡ false → valid s ≡ false
+      → Joins clocks (l ++ (s ∷ [])) (joiningOf (record { verdict = BadEntry; place = i }) (a .join))
+  step-bad i e r v =
+      let y : all valid l ≡ true = all-good l (a .judged) (j .judged) r in
+      let b : all valid (l ++ (s ∷ [])) ≡ false = all-more s l ∙ rw (y, v) in
+      record {
+        judged = (λ k. record { verdict = BadEntry; place = (sym e ∙ sym (first-last s l y v)) k }) ∙ sym (judged-bad (l ++ (s ∷ [])) b);
+        joined = λ w. absurd (never-both w b);
+      }
+
+-- ---- the first i entries of a list
+module _ (clocks : Clocks) (xs : List Timestamp) (i : ℕ) where
+  pub joins-next : (a r : Joining) → i < length xs
+      → ((l : List Timestamp) → length l ≡ i → Joins clocks l a → Joins clocks (l ++ (getD xs i blank ∷ [])) r)
+      → Joins clocks (take i xs) a → Joins clocks (take (suc i) xs) r
+  joins-next a r h step j = rw (take-suc xs i blank h) (step (take i xs) (length-take-le i xs (omega arith)) j)
+
+  pub joins-all : (a : Joining) → length xs ≤ i → Joins clocks (take i xs) a → Joins clocks xs a
+  joins-all a h j = rw (take-all i xs h) at j
 
 -- ---- the answer
-pub join-is : (ratio : ℕ) (l : List Timestamp) → joinRun ratio l ≡ joinAnswer ratio l
-unfolding joinRun joinAnswer joinStart joinVerdict joinDone refusal numberOf
-join-is ratio l = ⊎-elim (λ r. ⊎-elim (λ n. ⊎-elim (good r n) (bad r n) (either-way (all valid l))) (length-bad r) (either-way (validLength (length l)))) ratio-bad (either-way (validRatio ratio))
-  where
-    ratio-bad : validRatio ratio ≡ false → joinRun ratio l ≡ joinAnswer ratio l
-    ratio-bad r = rw r
+module _ (ratio : ℕ) (l : List Timestamp) where
+  -- turned back before an entry is read
+  pub stopped-is : refusal (joinVerdict ratio (length l)) ≡ true → refusedJoin (joinVerdict ratio (length l)) 0 ≡ joinAnswer ratio l
+  unfolding joinAnswer joinVerdict refusal numberOf
+  stopped-is r = ⊎-elim
+      (λ (y : validRatio ratio ≡ true). ⊎-elim
+      (λ (n : validLength (length l) ≡ true). absurd (never-both r (rw (y, n))))
+      (λ (n : validLength (length l) ≡ false). rw (y, n))
+      (either-way (validLength (length l))))
+      (λ z. rw z)
+      (either-way (validRatio ratio))
 
-    length-bad : validRatio ratio ≡ true → validLength (length l) ≡ false → joinRun ratio l ≡ joinAnswer ratio l
-    length-bad r n = rw (r, n)
+  -- else by the entries
+  entries-is : refusal (joinVerdict ratio (length l)) ≡ false
+      → joinAnswer ratio l ≡ pick (not (all valid l)) (refusedJoin BadEntry (firstInvalid l)) (record { number = 0; place = 0; timestamps = shown (joinOf (clocksOf ratio) l) })
+  unfolding joinAnswer joinVerdict refusal numberOf
+  entries-is r = ⊎-elim
+      (λ (y : validRatio ratio ≡ true). ⊎-elim
+      (λ (n : validLength (length l) ≡ true). rw (y, n))
+      (λ (n : validLength (length l) ≡ false). absurd (never-both (rw (y, n)) r))
+      (either-way (validLength (length l))))
+      (λ (z : validRatio ratio ≡ false). absurd (never-both (rw z) r))
+      (either-way (validRatio ratio))
 
-    good : validRatio ratio ≡ true → validLength (length l) ≡ true → all valid l ≡ true → joinRun ratio l ≡ joinAnswer ratio l
-    good r n v = rw (r, n, v, all-good 0 noMarks l v, latest-is noMarks l v, none-is, joinOf-list ratio l (valid-placeable l v))
+  module _ (p : refusal (joinVerdict ratio (length l)) ≡ false) (a : Joining) (j : Joins (clocksOf ratio) l a) where
+    pub refused-answer : refusal (a .judged .verdict) ≡ true → refusedJoin (a .judged .verdict) (a .judged .place) ≡ joinAnswer ratio l
+    refused-answer r =
+        let z : all valid l ≡ false = some-bad l (a .judged) (j .judged) r in
+        let e : a .judged ≡ record { verdict = BadEntry; place = firstInvalid l } = j .judged ∙ judged-bad l z in
+        ap (λ (x : Judged). refusedJoin (x .verdict) (x .place)) e ∙ sym (entries-is p ∙ rw z)
 
-    bad : validRatio ratio ≡ true → validLength (length l) ≡ true → all valid l ≡ false → joinRun ratio l ≡ joinAnswer ratio l
-    bad r n v =
-        let b : Bad 0 l (foldJoin 0 (joiningOf nothingJudged noMarks) l) = some-bad 0 noMarks l v in
-        rw (r, n, v, b .verdict, b .place) (ap (refusedJoin BadEntry) (omega arith))
+    pub joined-answer : refusal (a .judged .verdict) ≡ false → _≡_ {A = JoinAnswer} (record { number = 0; place = 0; timestamps = shownFrom (a .join) }) (joinAnswer ratio l)
+    joined-answer r =
+        let y : all valid l ≡ true = all-good l (a .judged) (j .judged) r in
+        (λ i. record { number = 0; place = 0; timestamps = shown-is (clocksOf ratio) (joinOf (clocksOf ratio) l) (a .join) (j .joined y) i }) ∙ sym (entries-is p ∙ rw y)

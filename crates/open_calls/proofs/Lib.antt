@@ -1,5 +1,4 @@
-pub mod Clear
-pub mod Folds
+pub mod Adding
+pub mod Clearing
 pub mod Joins
-pub mod Marks
-pub mod Settled
+pub mod Notes

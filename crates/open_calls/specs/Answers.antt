@@ -10,7 +10,7 @@ use Rattle.timestamps.specs.declared.Timestamp.{Timestamp}
 use Rattle.timestamps.specs.declared.CompositeTimestamp.{CompositeTimestamp}
 use Rattle.timestamps.specs.Composite.{loggerPlaces, presentAt, stampAt}
 use Rattle.timestamps.specs.Join.{joinOf}
-use Rattle.timestamps.specs.Order.{blank, valid, validRatio}
+use Rattle.timestamps.specs.Order.{blank, clocksOf, valid, validRatio}
 use Rattle.open_calls.specs.declared.Verdict.{Verdict}
 use Rattle.open_calls.specs.declared.Verdict.the-variants.{Accepted, BadRatio, BadLength, BadEntry, NotConcurrent}
 use Rattle.open_calls.specs.declared.JoinAnswer.{JoinAnswer}
@@ -53,4 +53,4 @@ joinAnswer ratio l =
     pick (not (validRatio ratio)) (refusedJoin BadRatio 0)
     (pick (not (validLength (length l))) (refusedJoin BadLength 0)
     (pick (not (all valid l)) (refusedJoin BadEntry (firstInvalid l))
-    (record { number = 0; place = 0; timestamps = shown (joinOf ratio l) })))
+    (record { number = 0; place = 0; timestamps = shown (joinOf (clocksOf ratio) l) })))

@@ -1,12 +1,17 @@
 // The join of a lent list, one of the two calls that stand open to any caller; and what it shares with the other, the comparison.
 ghost use mathlib.Core.Path.{_≡_};
-ghost use mathlib.Core.Bool.{true};
-ghost use mathlib.Core.List.{[]};
-ghost use Prim.Native.Nat.{max, _-_, _<_};
-ghost use Rattle.timestamps.specs.Order.{valid};
+ghost use mathlib.Core.Bool.{true, false};
+ghost use mathlib.Core.List.{List, [], _∷_, _++_};
+ghost use Prim.Native.Nat.{ℕ, _<_};
+ghost use lib.Dec.{ltb};
+ghost use lib.ListN.{length};
+ghost use Rattle.sequences.specs.Select.{all};
+ghost use Rattle.timestamps.specs.declared.Timestamp.{Timestamp};
+ghost use Rattle.timestamps.specs.Order.{clocksOf, valid};
 ghost use Rattle.open_calls.specs.Answers.{joinAnswer, numberOf, refusal, refusedJoin, validLength};
-ghost use Rattle.open_calls.specs.Marks.{Highest, globalStart, markOf, raisedBy, settledTill, shownFrom, shownMark};
-ghost use Rattle.open_calls.specs.Steps.{foldJoin, joinDone, joinStart, joinStep, joinVerdict, joiningOf, noMarks};
+ghost use Rattle.open_calls.specs.Notes.{Joined, Raised, RoomFor, clearNote, globalNote, leftBy, localNote, shownFrom, shownNote};
+ghost use Rattle.open_calls.specs.Steps.{Joins, joinStart, joinVerdict, joiningOf, nothingJudged};
+use timestamps::GlobalTick;
 use timestamps::LocalTick;
 use timestamps::Timestamp;
 
@@ -65,48 +70,104 @@ fn refused_join(v: Verdict, place: u64) -> JoinAnswer
     }
 }
 
-// ---- marks
+// ---- notes
 
-// The mark of a timestamp: its tick plus 1. Where there is no timestamp the mark is 0 (specs/Marks.antt).
-pub fn mark_of(s: Timestamp) -> u64
+// What is noted of the join of a list: of the logger at place k its local tick at k and its global tick at 8 + k, and at 16 the highest global tick.
+// Each is noted as the tick plus 1, and 0 where there is none (specs/Notes.antt): so two notes compare as their two ticks do.
+pub type JoinNotes = [u64; 17];
+
+// The note of its local tick.
+pub fn note_of(s: Timestamp) -> u64
     requires { ⌜ valid s ≡ true ⌝ }
-    ensures { λ r. ⌜ r ≡ markOf s ⌝ }
+    ensures { λ r. ⌜ r ≡ localNote s ⌝ }
 {
     s.tick.0 + 1
 }
 
-// Of each logger the latest is kept.
-pub fn raise(marks: &mut [u64; 8], s: Timestamp)
+// The note of its global tick: here alone the join divides.
+fn global_note(s: Timestamp, ratio: u64) -> u64
     requires { ⌜ valid s ≡ true ⌝ }
-    ensures { λ _. ⌜ now (marks .exit) ≡ raisedBy (now (marks .entry)) s ⌝ }
+    ensures { λ r. ⌜ r ≡ globalNote (clocksOf ratio) s ⌝ }
 {
-    let k = s.logger as usize;
-    let mark = mark_of(s);
-    let old = marks[k];
-    if old < mark {
-        marks[k] = mark;
+    let g = s.tick.global(ratio);
+    g.0 + 1
+}
+
+// Of two notes of one logger's local ticks the first is the earlier.
+fn is_earlier(note: u64, other: u64) -> bool
+    ensures { λ r. ⌜ r ≡ ltb note other ⌝ }
+{
+    let t = LocalTick(note);
+    let u = LocalTick(other);
+    t.earlier(u)
+}
+
+// Of two notes of global ticks the first is clearly earlier.
+fn is_clear(note: u64, other: u64) -> bool
+    ensures { λ r. ⌜ r ≡ clearNote note other ⌝ }
+{
+    let g = GlobalTick(note);
+    let h = GlobalTick(other);
+    g.clearly_earlier(h)
+}
+
+// ---- adding a timestamp
+
+// The timestamp at place k leaves if it is clearly earlier.
+fn leave(join: &mut JoinNotes, k: usize, global: u64)
+    requires { ⌜ k < 8 ⌝ }
+    ensures { λ _. ⌜ now (join .exit) ≡ leftBy (now (join .entry)) k global ⌝ }
+{
+    let held = join[8 + k];
+    if is_clear(held, global) {
+        join[k] = 0;
+        join[8 + k] = 0;
     }
 }
 
-pub fn larger(a: u64, b: u64) -> u64
-    ensures { λ r. ⌜ r ≡ max a b ⌝ }
+// A new highest global tick: all that are clearly earlier leave.
+fn raise_to(join: &mut JoinNotes, global: u64)
+    ensures { λ _. ⌜ (length (now (join .entry)) ≡ 17 → Raised (now (join .entry)) global (now (join .exit))) ⌝ }
 {
-    if a < b { b } else { a }
+    let mut k: usize = 0;
+    while k < 8 {
+        leave(join, k, global);
+        k = k + 1;
+    }
+    join[16] = global;
 }
 
-// The first tick of the same global tick.
-pub fn global_start(t: LocalTick, ratio: u64) -> u64
-    ensures { λ r. ⌜ r ≡ globalStart ratio (t .0) ⌝ }
+// Where it is not the highest none is clearly earlier: the timestamps of a join are at most one global tick apart.
+fn make_room(join: &mut JoinNotes, global: u64)
+    ensures { λ _. ⌜ (length (now (join .entry)) ≡ 17 → RoomFor (now (join .entry)) global (now (join .exit))) ⌝ }
 {
-    let g = t.global(ratio);
-    g.0 * ratio
+    let highest = GlobalTick(join[16]);
+    let g = GlobalTick(global);
+    if highest.earlier(g) {
+        raise_to(join, global);
+    }
 }
 
-// Below this tick all are clearly earlier than those of the global tick that starts here.
-pub fn clear_till(start: u64, ratio: u64) -> u64
-    ensures { λ r. ⌜ r ≡ start - ratio ⌝ }
+// The join with one timestamp more. One that is no later than its logger's is not divided. Where its logger has none, only the global tick tells
+// whether it comes to stand.
+fn add(join: &mut JoinNotes, s: Timestamp, ratio: u64)
+    requires { ⌜ valid s ≡ true ⌝ }
+    ensures joined { λ _. ⌜ ((l : List Timestamp) → all valid l ≡ true
+        → Joined (clocksOf ratio) l (now (join .entry))
+        → Joined (clocksOf ratio) (l ++ (s ∷ [])) (now (join .exit))) ⌝ }
 {
-    if start < ratio { 0 } else { start - ratio }
+    let k = s.logger as usize;
+    let held = join[k];
+    let note = note_of(s);
+    if is_earlier(held, note) {
+        let global = global_note(s, ratio);
+        let highest = join[16];
+        if !is_clear(global, highest) {
+            make_room(join, global);
+            join[k] = note;
+            join[8 + k] = global;
+        }
+    }
 }
 
 // ---- the join
@@ -117,10 +178,10 @@ pub struct Judged {
     pub place: u64,
 }
 
-// What has been joined of a list: how it is judged, and the marks of its timestamps.
+// A list judged, and joined while no entry turned it back.
 pub struct Joining {
     pub judged: Judged,
-    pub marks: [u64; 8],
+    pub join: JoinNotes,
 }
 
 // Before the list is walked: turned back at once, or nothing judged yet.
@@ -159,10 +220,12 @@ pub fn join_start(ratio: u64, n: usize) -> JoinStart
     }
 }
 
-// One entry: after a bad one nothing changes. What is handed back is made anew in each case: `a` itself would be copied with its padding,
+// One entry more: after a bad one nothing changes. What is handed back is made anew in each case: `a` itself would be copied with its padding,
 // and every entry would wait for that copy.
-pub fn join_step(a: Judged, marks: &mut [u64; 8], s: Timestamp, i: usize) -> Judged
-    ensures { λ r. ⌜ joiningOf r (now (marks .exit)) ≡ joinStep (joiningOf a (now (marks .entry))) s i ⌝ }
+pub fn join_step(a: Judged, join: &mut JoinNotes, s: Timestamp, i: usize, ratio: u64) -> Judged
+    ensures joined { λ r. ⌜ ((l : List Timestamp) → length l ≡ i
+        → Joins (clocksOf ratio) l (joiningOf a (now (join .entry)))
+        → Joins (clocksOf ratio) (l ++ (s ∷ [])) (joiningOf r (now (join .exit)))) ⌝ }
 {
     let v = a.verdict;
     let place = a.place;
@@ -172,7 +235,7 @@ pub fn join_step(a: Judged, marks: &mut [u64; 8], s: Timestamp, i: usize) -> Jud
             place: place,
         }
     } else if s.valid() {
-        raise(marks, s);
+        add(join, s, ratio);
         Judged {
             verdict: Verdict::Accepted,
             place: 0,
@@ -185,57 +248,31 @@ pub fn join_step(a: Judged, marks: &mut [u64; 8], s: Timestamp, i: usize) -> Jud
     }
 }
 
-// The marks stay in one place and are lent to each step.
-pub fn fold_join(init: Judged, list: &[Timestamp]) -> Joining
-    ensures { λ r. ⌜ r ≡ foldJoin 0 (joiningOf init noMarks) (now (list .entry)) ⌝ }
+// The join stays in one place and is lent to each step: after i entries it is the join of the first i.
+pub fn fold_join(init: Judged, list: &[Timestamp], ratio: u64) -> Joining
+    ensures joined { λ r. ⌜ (init ≡ nothingJudged → Joins (clocksOf ratio) (now (list .entry)) r) ⌝ }
 {
-    let mut marks: [u64; 8] = [0; 8];
+    let mut join: JoinNotes = [0; 17];
     let mut a = init;
     let mut i: usize = 0;
     while i < list.len() {
         let s = list[i];
-        a = join_step(a, &mut marks, s, i);
+        a = join_step(a, &mut join, s, i, ratio);
         i = i + 1;
     }
     Joining {
         judged: a,
-        marks: marks,
+        join: join,
     }
 }
 
-// The largest mark.
-fn highest(marks: [u64; 8]) -> u64
-    ensures { λ r. ⌜ Highest 8 marks r ⌝ }
-{
-    let mut h: u64 = 0;
-    let mut k: usize = 0;
-    while k < 8 {
-        h = larger(h, marks[k]);
-        k = k + 1;
-    }
-    h
-}
-
-// The marks up to this one are clearly earlier than the largest.
-fn settled_till(h: u64, ratio: u64) -> u64
-    ensures { λ r. ⌜ r ≡ settledTill ratio h ⌝ }
-{
-    if h == 0 {
-        0
-    } else {
-        let t = LocalTick(h - 1);
-        let start = global_start(t, ratio);
-        clear_till(start, ratio)
-    }
-}
-
-// The timestamp of a mark over `till`, as the answer shows it.
-fn show_mark(mark: u64, till: u64, k: usize) -> Timestamp
+// The timestamp of a note, as the answer shows it.
+fn show_note(note: u64, k: usize) -> Timestamp
     requires { ⌜ k < 8 ⌝ }
-    ensures { λ r. ⌜ r ≡ shownMark till mark k ⌝ }
+    ensures { λ r. ⌜ r ≡ shownNote note k ⌝ }
 {
-    if till < mark {
-        let t = LocalTick(mark - 1);
+    if 0 < note {
+        let t = LocalTick(note - 1);
         Timestamp {
             logger: k as u8,
             tick: t,
@@ -245,32 +282,32 @@ fn show_mark(mark: u64, till: u64, k: usize) -> Timestamp
     }
 }
 
-fn show(marks: [u64; 8], till: u64) -> [Timestamp; 8]
-    ensures { λ r. ⌜ r ≡ shownFrom till marks ⌝ }
+fn show(join: JoinNotes) -> [Timestamp; 8]
+    ensures { λ r. ⌜ r ≡ shownFrom join ⌝ }
 {
     let blank = Timestamp::blank();
     let mut all = [blank; 8];
     let mut k: usize = 0;
     while k < 8 {
-        all[k] = show_mark(marks[k], till, k);
+        all[k] = show_note(join[k], k);
         k = k + 1;
     }
     all
 }
 
-pub fn join_done(a: Joining, ratio: u64) -> JoinAnswer
-    ensures { λ r. ⌜ r ≡ joinDone ratio a ⌝ }
+// The answer for a list that has been walked.
+pub fn join_done(a: Joining) -> JoinAnswer
+    ensures answered { λ r. ⌜ ((ratio : ℕ) (l : List Timestamp) → refusal (joinVerdict ratio (length l)) ≡ false
+        → Joins (clocksOf ratio) l a → r ≡ joinAnswer ratio l) ⌝ }
 {
     let judged = a.judged;
     let v = judged.verdict;
     let place = judged.place;
-    let marks = a.marks;
+    let join = a.join;
     if is_refusal(v) {
         refused_join(v, place)
     } else {
-        let h = highest(marks);
-        let till = settled_till(h, ratio);
-        let all = show(marks, till);
+        let all = show(join);
         JoinAnswer {
             number: 0,
             place: 0,
@@ -288,6 +325,6 @@ pub fn join(ratio: u64, list: &[Timestamp]) -> JoinAnswer
     if start.stop {
         return start.answer;
     }
-    let a = fold_join(start.judged, list);
-    join_done(a, ratio)
+    let a = fold_join(start.judged, list, ratio);
+    join_done(a)
 }

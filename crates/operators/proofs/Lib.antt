@@ -1,2 +1,3 @@
 pub mod Dispatch
 pub mod Turns
+pub mod Views

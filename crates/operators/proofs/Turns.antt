@@ -12,9 +12,6 @@ use Rattle.sequences.specs.Choice.{pick}
 use Rattle.sequences.specs.Loops.{fold}
 use Rattle.sequences.proofs.Loops.{fold-end, fold-none, fold-next, fold-still, fold-turn}
 use Rattle.occurrences.specs.declared.Occurrence.{Occurrence}
-use Rattle.occurrences.specs.Occurrences.{blank}
-use Rattle.occurrences.specs.Packed.{held, occurrenceOf}
-use Rattle.occurrences.proofs.Packed.{held-at, length-held}
 use Rattle.waiting_lists.specs.Waiting.{appendedTo}
 use Rattle.waiting_lists.proofs.Appends.{appended-room, appended-full}
 use Rattle.contexts.specs.Choice.{seqCandidates}
@@ -32,14 +29,6 @@ use Rattle.operators.proofs.Dispatch.{arrive-and-left, arrive-and-right
 fold-through : {S T A : Type 0} (g : T → S) (f : S → A → S) (h : T → A → T) → ((t : T) (a : A) → f (g t) a ≡ g (h t a)) → (l : List A) (t : T) → fold f l (g t) ≡ g (fold h l t)
 fold-through g f h e [] t = fold-none f (g t) ∙ ap g (sym (fold-none h t))
 fold-through g f h e (a ∷ l) t = fold-next f a l (g t) ∙ ap (fold f l) (e t a) ∙ fold-through g f h e l (h t a) ∙ ap g (sym (fold-next h a l t))
-
--- a loop over the first of a row of arrivals
-module _ {S : Type 0} (f : S → Occurrence → S) (ticks : List ℕ) (row : List (List ℕ)) (count n i : ℕ) (counted : n ≡ min count (length row)) where
-  pub arrival-turn : (s s′ : S) → i < n → s′ ≡ f s (occurrenceOf ticks (getD row i [])) → fold f (drop (i + 1) (held ticks row count)) s′ ≡ fold f (drop i (held ticks row count)) s
-  arrival-turn s s′ h e = fold-turn f (held ticks row count) i s s′ blank (omega (arith, length-held ticks row count)) (e ∙ ap (f s) (sym (held-at ticks row count i (omega arith) (omega arith))))
-
-  pub arrival-end : (s : S) → n ≤ i → fold f (drop i (held ticks row count)) s ≡ s
-  arrival-end s h = fold-end f (held ticks row count) i s (omega (arith, length-held ticks row count))
 
 abbrev pub turn : List Occurrence → List Occurrence → Emitting → Turned
 turn left right e = record { left = left; right = right; emit = e }
@@ -80,7 +69,7 @@ module _ (s : Setting) (node : Node) (place : ℕ) where
   seq-right-by right m o false n h y = sym (arrive-seq-right s node place false (leftTurn right m) o y _ n h refl refl)
 
   -- from what the calls ensure
-  pub met-step : (m x : Met) (o : Occurrence) (marks : List Bool) → marks ≡ seqCandidates (s .ratio) (m .list) o → x ≡ metBy s node place (m .list) marks (m .emit) o → x ≡ metStep s node place m o
+  pub met-step : (m x : Met) (o : Occurrence) (marks : List Bool) → marks ≡ seqCandidates (s .clocks) (m .list) o → x ≡ metBy s node place (m .list) marks (m .emit) o → x ≡ metStep s node place m o
   unfolding metStep
   met-step m x o marks h e = e ∙ ap (λ c. metBy s node place (m .list) c (m .emit) o) h
 

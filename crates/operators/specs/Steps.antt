@@ -25,7 +25,7 @@ unfoldable pub waitStep : Met → Occurrence → Met
 waitStep m o = waited (m .list) (m .emit) o
 
 unfoldable pub metStep : Setting → Node → ℕ → Met → Occurrence → Met
-metStep s node place m o = metBy s node place (m .list) (seqCandidates (s .ratio) (m .list) o) (m .emit) o
+metStep s node place m o = metBy s node place (m .list) (seqCandidates (s .clocks) (m .list) o) (m .emit) o
 
 unfoldable pub sidesStep : Setting → Node → ℕ → Sides → Occurrence → Sides
 sidesStep s node place x o = andArrived s node place (x .own) (x .other) (x .emit) o

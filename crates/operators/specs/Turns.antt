@@ -34,7 +34,7 @@ seqLeft t o = leftMet t (waited (t .left) (t .emit) o)
 
 -- for a right arrival, the candidates are the left waiting occurrences whose stamp is before its own. It never waits
 unfoldable pub seqRight : Setting → Node → ℕ → Turned → Occurrence → Turned
-seqRight s node place t o = leftMet t (metBy s node place (t .left) (seqCandidates (s .ratio) (t .left) o) (t .emit) o)
+seqRight s node place t o = leftMet t (metBy s node place (t .left) (seqCandidates (s .clocks) (t .left) o) (t .emit) o)
 
 -- AND: the node as one side sees it, and as the other does
 abbrev pub leftSides : Sides → Turned

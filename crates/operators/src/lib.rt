@@ -4,6 +4,7 @@ use arrivals::ListTurn;
 use arrivals::SidesTurn;
 use emissions::Emit;
 use emissions::Limit;
+use occurrences::Packed;
 use plans::Node;
 ghost use mathlib.Core.List.{List, []};
 ghost use mathlib.Core.Path.{_≡_};
@@ -12,14 +13,15 @@ ghost use lib.Dec.{ltb};
 ghost use lib.ListN.{getD, length, take};
 ghost use Rattle.sequences.specs.Loops.{fold};
 ghost use Rattle.detections.specs.Writing.{Beyond};
-ghost use Rattle.occurrences.specs.Packed.{held};
-ghost use Rattle.emissions.specs.Emissions.{emitOf, emittedAll, numberOf};
+ghost use Rattle.occurrences.specs.declared.Occurrence.{Occurrence};
+ghost use Rattle.occurrences.specs.Packed.{Holds, Notes};
+ghost use Rattle.emissions.specs.Emissions.{Emits, Emitting, emittedAll};
 ghost use Rattle.waiting_lists.specs.Waiting.{appendedTo};
 ghost use Rattle.arrivals.specs.Arrivals.{settingOf};
-ghost use Rattle.arrivals.specs.Views.{metOf, sidesOf};
+ghost use Rattle.arrivals.specs.Views.{HoldsSides, HoldsMet, Room};
 ghost use Rattle.operators.specs.Steps.{andTurn, begun, meeting, metStep, orTurn, seqTurn, sides, sidesStep};
 ghost use Rattle.operators.specs.Turns.{nodeTurn};
-ghost use Rattle.operators.specs.Views.{turnOf};
+ghost use Rattle.operators.specs.Views.{HoldsTurned, Listed, ListedTwo, Offered, Passing, PassingTwo, Sided, SidedTwo};
 
 // How many wait on a node's left and right after its turn, and what it has made from this event.
 pub struct Turn {
@@ -40,16 +42,19 @@ fn up_to(count: usize, places: usize) -> usize
 // OR passes each on as a finding.
 fn or_all(
     e: Emit,
-    made: &mut [[u64; 3]; 8],
-    arrivals: &[[u64; 3]; 8],
+    made: &mut [Packed; 8],
+    arrivals: &[Packed; 8],
     count: usize,
     place: u64,
-    ticks: &[u64; 256],
+    ticks: &[u64],
     loggers: &[u64; 8],
     out: &mut [u8],
 ) -> Emit
-    requires { ⌜ (getD (now ticks) 0 0 ≡ 0) × (e .at ≤ length (now out)) × (e .findings ≤ e .at) ⌝ }
-    ensures { λ r. ⌜ (emitOf (now (ticks .entry)) r (now (made .exit)) (now (out .exit)) ≡ emittedAll (length (now (out .entry))) (now (loggers .entry)) place (emitOf (now (ticks .entry)) e (now (made .entry)) (now (out .entry))) (held (now (ticks .entry)) (now (arrivals .entry)) count)) × Beyond (now (out .entry)) (now (out .exit)) (e .at) (r .findings) (r .at) ⌝ }
+    requires { ⌜ Passing (now ticks) (now arrivals) count e (now made) (now out) × Room e (now out) ⌝ }
+    ensures emits { λ r. ⌜ ((globals : List ℕ) (t : Notes (now (ticks .entry)) globals) (k : List Occurrence) (s : Emitting)
+        → Holds t (now (arrivals .entry)) count k → Emits t e (now (made .entry)) (now (out .entry)) s
+        → Emits t r (now (made .exit)) (now (out .exit)) (emittedAll (length (now (out .entry))) (now (loggers .entry)) place s k)) ⌝ }
+    ensures beyond { λ r. ⌜ Beyond (now (out .entry)) (now (out .exit)) (e .at) (r .findings) (r .at) ⌝ }
 {
     let n = up_to(count, arrivals[..].len());
     let mut f = e;
@@ -62,13 +67,8 @@ fn or_all(
 }
 
 // Each waits; a full list stays as it is.
-fn wait_all(
-    list: &mut [[u64; 3]; 16],
-    waiting: usize,
-    arrivals: &[[u64; 3]; 8],
-    count: usize,
-) -> usize
-    ensures { λ r. ⌜ ((ticks : List ℕ) → held ticks (now (list .exit)) r ≡ fold appendedTo (held ticks (now (arrivals .entry)) count) (held ticks (now (list .entry)) waiting)) ⌝ }
+fn wait_all(list: &mut [Packed; 16], waiting: usize, arrivals: &[Packed; 8], count: usize) -> usize
+    ensures { λ r. ⌜ take r (now (list .exit)) ≡ fold appendedTo (take count (now (arrivals .entry))) (take waiting (now (list .entry))) ⌝ }
 {
     let n = up_to(count, arrivals[..].len());
     let mut l = waiting;
@@ -81,8 +81,9 @@ fn wait_all(
 }
 
 // Whether they are too many to wait all.
-fn overflows(list: &[[u64; 3]; 16], waiting: usize, arrivals: &[[u64; 3]; 8], count: usize) -> bool
-    ensures { λ r. ⌜ ((ticks : List ℕ) → (r ≡ ltb 16 (length (held ticks (now (list .entry)) waiting) + length (held ticks (now (arrivals .entry)) count))) × (length (held ticks (now (list .entry)) waiting) ≤ 16)) ⌝ }
+fn overflows(list: &[Packed; 16], waiting: usize, arrivals: &[Packed; 8], count: usize) -> bool
+    ensures { λ r. ⌜ (r ≡ ltb 16 (length (take waiting (now (list .entry))) + length (take count (now (arrivals .entry)))))
+        × (length (take waiting (now (list .entry))) ≤ 16) ⌝ }
 {
     let a = up_to(waiting, list[..].len());
     let b = up_to(count, arrivals[..].len());
@@ -91,28 +92,32 @@ fn overflows(list: &[[u64; 3]; 16], waiting: usize, arrivals: &[[u64; 3]; 8], co
 
 // On the right of a SEQ node.
 fn meet_all(
-    list: &mut [[u64; 3]; 16],
+    list: &mut [Packed; 16],
     waiting: usize,
     e: Emit,
-    made: &mut [[u64; 3]; 8],
-    arrivals: &[[u64; 3]; 8],
+    made: &mut [Packed; 8],
+    arrivals: &[Packed; 8],
     count: usize,
     node: Node,
     place: u64,
-    ratio: u64,
-    ticks: &[u64; 256],
+    ticks: &[u64],
+    globals: &[u64],
     loggers: &[u64; 8],
     out: &mut [u8],
 ) -> ListTurn
-    requires { ⌜ (getD (now ticks) 0 0 ≡ 0) × (e .at ≤ length (now out)) × (e .findings ≤ e .at) ⌝ }
-    ensures { λ r. ⌜ (metOf (now (ticks .entry)) r (now (list .exit)) (now (made .exit)) (now (out .exit)) ≡ fold (metStep (settingOf (length (now (out .entry))) ratio (now (loggers .entry))) node place) (held (now (ticks .entry)) (now (arrivals .entry)) count) (meeting (held (now (ticks .entry)) (now (list .entry)) waiting) (emitOf (now (ticks .entry)) e (now (made .entry)) (now (out .entry))))) × Beyond (now (out .entry)) (now (out .exit)) (e .at) (r .emit .findings) (r .emit .at) ⌝ }
+    requires { ⌜ Listed (now ticks) (now globals) (now list) waiting (now arrivals) count e (now made) (now out) × Room e (now out) ⌝ }
+    ensures meets { λ r. ⌜ ((t : Notes (now (ticks .entry)) (now (globals .entry))) (l k : List Occurrence) (s : Emitting)
+        → Holds t (now (list .entry)) waiting l → Holds t (now (arrivals .entry)) count k → Emits t e (now (made .entry)) (now (out .entry)) s
+        → HoldsMet t r (now (list .exit)) (now (made .exit)) (now (out .exit))
+        (fold (metStep (settingOf (length (now (out .entry))) (t .clocks) (now (loggers .entry))) node place) k (meeting l s))) ⌝ }
+    ensures beyond { λ r. ⌜ Beyond (now (out .entry)) (now (out .exit)) (e .at) (r .emit .findings) (r .emit .at) ⌝ }
 {
     let n = up_to(count, arrivals[..].len());
     let mut l = waiting;
     let mut f = e;
     let mut i: usize = 0;
     while i < n {
-        let candidates = contexts::before_arrival(list, l, &arrivals[i], ticks, ratio);
+        let candidates = contexts::before_arrival(list, l, &arrivals[i], ticks, globals);
         let t = arrivals::meet(
             list,
             l,
@@ -122,8 +127,8 @@ fn meet_all(
             &arrivals[i],
             node,
             place,
-            ratio,
             ticks,
+            globals,
             loggers,
             out,
         );
@@ -139,23 +144,28 @@ fn meet_all(
 
 // On one side of an AND node.
 fn and_all(
-    own: &mut [[u64; 3]; 16],
+    own: &mut [Packed; 16],
     here: usize,
-    other: &mut [[u64; 3]; 16],
+    other: &mut [Packed; 16],
     there: usize,
     e: Emit,
-    made: &mut [[u64; 3]; 8],
-    arrivals: &[[u64; 3]; 8],
+    made: &mut [Packed; 8],
+    arrivals: &[Packed; 8],
     count: usize,
     node: Node,
     place: u64,
-    ratio: u64,
-    ticks: &[u64; 256],
+    ticks: &[u64],
+    globals: &[u64],
     loggers: &[u64; 8],
     out: &mut [u8],
 ) -> SidesTurn
-    requires { ⌜ (getD (now ticks) 0 0 ≡ 0) × (e .at ≤ length (now out)) × (e .findings ≤ e .at) ⌝ }
-    ensures { λ r. ⌜ (sidesOf (now (ticks .entry)) r (now (own .exit)) (now (other .exit)) (now (made .exit)) (now (out .exit)) ≡ fold (sidesStep (settingOf (length (now (out .entry))) ratio (now (loggers .entry))) node place) (held (now (ticks .entry)) (now (arrivals .entry)) count) (sides (held (now (ticks .entry)) (now (own .entry)) here) (held (now (ticks .entry)) (now (other .entry)) there) (emitOf (now (ticks .entry)) e (now (made .entry)) (now (out .entry))))) × Beyond (now (out .entry)) (now (out .exit)) (e .at) (r .emit .findings) (r .emit .at) ⌝ }
+    requires { ⌜ Sided (now ticks) (now globals) (now own) here (now other) there (now arrivals) count e (now made) (now out) × Room e (now out) ⌝ }
+    ensures faces { λ r. ⌜ ((t : Notes (now (ticks .entry)) (now (globals .entry))) (l m k : List Occurrence) (s : Emitting)
+        → Holds t (now (own .entry)) here l → Holds t (now (other .entry)) there m
+        → Holds t (now (arrivals .entry)) count k → Emits t e (now (made .entry)) (now (out .entry)) s
+        → HoldsSides t r (now (own .exit)) (now (other .exit)) (now (made .exit)) (now (out .exit))
+        (fold (sidesStep (settingOf (length (now (out .entry))) (t .clocks) (now (loggers .entry))) node place) k (sides l m s))) ⌝ }
+    ensures beyond { λ r. ⌜ Beyond (now (out .entry)) (now (out .exit)) (e .at) (r .emit .findings) (r .emit .at) ⌝ }
 {
     let n = up_to(count, arrivals[..].len());
     let mut l = here;
@@ -173,8 +183,8 @@ fn and_all(
             &arrivals[i],
             node,
             place,
-            ratio,
             ticks,
+            globals,
             loggers,
             out,
         );
@@ -194,7 +204,8 @@ fn and_all(
 
 // Nothing made yet.
 fn fresh(findings: u64, at: usize) -> Emit
-    ensures { λ r. ⌜ (((ticks : List ℕ) (made : List (List ℕ)) (out : List ℕ) → emitOf ticks r made out ≡ begun findings (take at out)) × (r .at ≡ at) × (r .findings ≡ findings)) ⌝ }
+    ensures { λ r. ⌜ ((ticks globals : List ℕ) (t : Notes ticks globals) (made : List (List ℕ)) (out : List ℕ)
+        → Emits t r made out (begun findings (take at out))) × (r .at ≡ at) × (r .findings ≡ findings) ⌝ }
 {
     Emit {
         limit: emissions::number_of(Limit::None),
@@ -207,18 +218,21 @@ fn fresh(findings: u64, at: usize) -> Emit
 // An OR node's turn: it has no waiting list.
 fn or_turn(
     place: u64,
-    la: &[[u64; 3]; 8],
+    la: &[Packed; 8],
     na: usize,
-    ra: &[[u64; 3]; 8],
+    ra: &[Packed; 8],
     nb: usize,
     e: Emit,
-    made: &mut [[u64; 3]; 8],
-    ticks: &[u64; 256],
+    made: &mut [Packed; 8],
+    ticks: &[u64],
     loggers: &[u64; 8],
     out: &mut [u8],
 ) -> Emit
-    requires { ⌜ (getD (now ticks) 0 0 ≡ 0) × (e .at ≤ length (now out)) × (e .findings ≤ e .at) ⌝ }
-    ensures { λ r. ⌜ (emitOf (now (ticks .entry)) r (now (made .exit)) (now (out .exit)) ≡ orTurn (length (now (out .entry))) (now (loggers .entry)) place (held (now (ticks .entry)) (now (la .entry)) na) (held (now (ticks .entry)) (now (ra .entry)) nb) (emitOf (now (ticks .entry)) e (now (made .entry)) (now (out .entry)))) × Beyond (now (out .entry)) (now (out .exit)) (e .at) (r .findings) (r .at) ⌝ }
+    requires { ⌜ PassingTwo (now ticks) (now la) na (now ra) nb e (now made) (now out) × Room e (now out) ⌝ }
+    ensures emits { λ r. ⌜ ((globals : List ℕ) (t : Notes (now (ticks .entry)) globals) (a b : List Occurrence) (s : Emitting)
+        → Holds t (now (la .entry)) na a → Holds t (now (ra .entry)) nb b → Emits t e (now (made .entry)) (now (out .entry)) s
+        → Emits t r (now (made .exit)) (now (out .exit)) (orTurn (length (now (out .entry))) (now (loggers .entry)) place a b s)) ⌝ }
+    ensures beyond { λ r. ⌜ Beyond (now (out .entry)) (now (out .exit)) (e .at) (r .findings) (r .at) ⌝ }
 {
     let f = or_all(e, made, la, na, place, ticks, loggers, out);
     or_all(f, made, ra, nb, place, ticks, loggers, out)
@@ -228,21 +242,25 @@ fn or_turn(
 fn seq_turn(
     node: Node,
     place: u64,
-    left: &mut [[u64; 3]; 16],
+    left: &mut [Packed; 16],
     waiting: usize,
-    la: &[[u64; 3]; 8],
+    la: &[Packed; 8],
     na: usize,
-    ra: &[[u64; 3]; 8],
+    ra: &[Packed; 8],
     nb: usize,
     e: Emit,
-    made: &mut [[u64; 3]; 8],
-    ratio: u64,
-    ticks: &[u64; 256],
+    made: &mut [Packed; 8],
+    ticks: &[u64],
+    globals: &[u64],
     loggers: &[u64; 8],
     out: &mut [u8],
 ) -> ListTurn
-    requires { ⌜ (getD (now ticks) 0 0 ≡ 0) × (e .at ≤ length (now out)) × (e .findings ≤ e .at) × (e .limit ≡ 0) ⌝ }
-    ensures { λ r. ⌜ (metOf (now (ticks .entry)) r (now (left .exit)) (now (made .exit)) (now (out .exit)) ≡ seqTurn (settingOf (length (now (out .entry))) ratio (now (loggers .entry))) node place (held (now (ticks .entry)) (now (left .entry)) waiting) (held (now (ticks .entry)) (now (la .entry)) na) (held (now (ticks .entry)) (now (ra .entry)) nb) (emitOf (now (ticks .entry)) e (now (made .entry)) (now (out .entry)))) × Beyond (now (out .entry)) (now (out .exit)) (e .at) (r .emit .findings) (r .emit .at) ⌝ }
+    requires { ⌜ ListedTwo (now ticks) (now globals) (now left) waiting (now la) na (now ra) nb e (now made) (now out) × Room e (now out) × (e .limit ≡ 0) ⌝ }
+    ensures meets { λ r. ⌜ ((t : Notes (now (ticks .entry)) (now (globals .entry))) (l a b : List Occurrence) (s : Emitting)
+        → Holds t (now (left .entry)) waiting l → Holds t (now (la .entry)) na a → Holds t (now (ra .entry)) nb b
+        → Emits t e (now (made .entry)) (now (out .entry)) s
+        → HoldsMet t r (now (left .exit)) (now (made .exit)) (now (out .exit)) (seqTurn (settingOf (length (now (out .entry))) (t .clocks) (now (loggers .entry))) node place l a b s)) ⌝ }
+    ensures beyond { λ r. ⌜ Beyond (now (out .entry)) (now (out .exit)) (e .at) (r .emit .findings) (r .emit .at) ⌝ }
 {
     let over = overflows(left, waiting, la, na);
     let l = wait_all(left, waiting, la, na);
@@ -262,8 +280,8 @@ fn seq_turn(
         nb,
         node,
         place,
-        ratio,
         ticks,
+        globals,
         loggers,
         out,
     )
@@ -273,23 +291,28 @@ fn seq_turn(
 fn and_turn(
     node: Node,
     place: u64,
-    left: &mut [[u64; 3]; 16],
+    left: &mut [Packed; 16],
     l: usize,
-    right: &mut [[u64; 3]; 16],
+    right: &mut [Packed; 16],
     r: usize,
-    la: &[[u64; 3]; 8],
+    la: &[Packed; 8],
     na: usize,
-    ra: &[[u64; 3]; 8],
+    ra: &[Packed; 8],
     nb: usize,
     e: Emit,
-    made: &mut [[u64; 3]; 8],
-    ratio: u64,
-    ticks: &[u64; 256],
+    made: &mut [Packed; 8],
+    ticks: &[u64],
+    globals: &[u64],
     loggers: &[u64; 8],
     out: &mut [u8],
 ) -> Turn
-    requires { ⌜ (getD (now ticks) 0 0 ≡ 0) × (e .at ≤ length (now out)) × (e .findings ≤ e .at) ⌝ }
-    ensures { λ r₁. ⌜ (turnOf (now (ticks .entry)) r₁ (now (left .exit)) (now (right .exit)) (now (made .exit)) (now (out .exit)) ≡ andTurn (settingOf (length (now (out .entry))) ratio (now (loggers .entry))) node place (held (now (ticks .entry)) (now (left .entry)) l) (held (now (ticks .entry)) (now (right .entry)) r) (held (now (ticks .entry)) (now (la .entry)) na) (held (now (ticks .entry)) (now (ra .entry)) nb) (emitOf (now (ticks .entry)) e (now (made .entry)) (now (out .entry)))) × Beyond (now (out .entry)) (now (out .exit)) (e .at) (r₁ .emit .findings) (r₁ .emit .at) ⌝ }
+    requires { ⌜ SidedTwo (now ticks) (now globals) (now left) l (now right) r (now la) na (now ra) nb e (now made) (now out) × Room e (now out) ⌝ }
+    ensures turns { λ r₁. ⌜ ((t : Notes (now (ticks .entry)) (now (globals .entry))) (x y a b : List Occurrence) (s : Emitting)
+        → Holds t (now (left .entry)) l x → Holds t (now (right .entry)) r y
+        → Holds t (now (la .entry)) na a → Holds t (now (ra .entry)) nb b → Emits t e (now (made .entry)) (now (out .entry)) s
+        → HoldsTurned t r₁ (now (left .exit)) (now (right .exit)) (now (made .exit)) (now (out .exit))
+        (andTurn (settingOf (length (now (out .entry))) (t .clocks) (now (loggers .entry))) node place x y a b s)) ⌝ }
+    ensures beyond { λ r₁. ⌜ Beyond (now (out .entry)) (now (out .exit)) (e .at) (r₁ .emit .findings) (r₁ .emit .at) ⌝ }
 {
     let s = and_all(
         left,
@@ -302,8 +325,8 @@ fn and_turn(
         na,
         node,
         place,
-        ratio,
         ticks,
+        globals,
         loggers,
         out,
     );
@@ -319,8 +342,8 @@ fn and_turn(
         nb,
         node,
         place,
-        ratio,
         ticks,
+        globals,
         loggers,
         out,
     );
@@ -336,25 +359,31 @@ fn and_turn(
 pub fn node_turn(
     node: Node,
     place: u64,
-    left: &mut [[u64; 3]; 16],
+    left: &mut [Packed; 16],
     l: usize,
-    right: &mut [[u64; 3]; 16],
+    right: &mut [Packed; 16],
     r: usize,
-    rows: &[[[u64; 3]; 8]],
+    rows: &[[Packed; 8]],
     a: usize,
     na: usize,
     b: usize,
     nb: usize,
-    made: &mut [[u64; 3]; 8],
+    made: &mut [Packed; 8],
     findings: u64,
-    ratio: u64,
-    ticks: &[u64; 256],
+    ticks: &[u64],
+    globals: &[u64],
     loggers: &[u64; 8],
     at: usize,
     out: &mut [u8],
 ) -> Turn
-    requires { ⌜ (getD (now ticks) 0 0 ≡ 0) × (at ≤ length (now out)) × (findings ≤ at) × (a < length (now rows)) × (b < length (now rows)) ⌝ }
-    ensures { λ t. ⌜ (turnOf (now (ticks .entry)) t (now (left .exit)) (now (right .exit)) (now (made .exit)) (now (out .exit)) ≡ nodeTurn (settingOf (length (now (out .entry))) ratio (now (loggers .entry))) node place (held (now (ticks .entry)) (now (left .entry)) l) (held (now (ticks .entry)) (now (right .entry)) r) (held (now (ticks .entry)) (getD (now (rows .entry)) a []) na) (held (now (ticks .entry)) (getD (now (rows .entry)) b []) nb) findings (take at (now (out .entry)))) × Beyond (now (out .entry)) (now (out .exit)) at (t .emit .findings) (t .emit .at) ⌝ }
+    requires { ⌜ Offered (now ticks) (now globals) (now left) l (now right) r (getD (now rows) a []) na (getD (now rows) b []) nb
+        × (at ≤ length (now out)) × (findings ≤ at) × (a < length (now rows)) × (b < length (now rows)) ⌝ }
+    ensures turns { λ r₁. ⌜ ((t : Notes (now (ticks .entry)) (now (globals .entry))) (x y k m : List Occurrence)
+        → Holds t (now (left .entry)) l x → Holds t (now (right .entry)) r y
+        → Holds t (getD (now (rows .entry)) a []) na k → Holds t (getD (now (rows .entry)) b []) nb m
+        → HoldsTurned t r₁ (now (left .exit)) (now (right .exit)) (now (made .exit)) (now (out .exit))
+        (nodeTurn (settingOf (length (now (out .entry))) (t .clocks) (now (loggers .entry))) node place x y k m findings (take at (now (out .entry))))) ⌝ }
+    ensures beyond { λ r₁. ⌜ Beyond (now (out .entry)) (now (out .exit)) at (r₁ .emit .findings) (r₁ .emit .at) ⌝ }
 {
     let e = fresh(findings, at);
     if node.operator == Node::OR {
@@ -390,8 +419,8 @@ pub fn node_turn(
             nb,
             e,
             made,
-            ratio,
             ticks,
+            globals,
             loggers,
             out,
         );
@@ -407,8 +436,8 @@ pub fn node_turn(
         nb,
         e,
         made,
-        ratio,
         ticks,
+        globals,
         loggers,
         out,
     );

@@ -2,6 +2,7 @@
 use Prim.Native.Nat.{ℕ}
 use mathlib.Core.List.{List, [], _∷_, _++_}
 use Rattle.forms.specs.Forms.{Form, number, pair, via, sectionBytes}
+use Rattle.timestamps.specs.Order.{Clocks, clocksOf}
 use Rattle.plans.specs.declared.Node.{Node}
 
 pub record Plan : Type 0 where
@@ -11,6 +12,10 @@ pub record Plan : Type 0 where
   pub loggers : List ℕ
   pub kinds : List ℕ
   pub nodes : List Node
+
+-- the clocks of its loggers
+abbrev pub planClocks : Plan → Clocks
+planClocks p = clocksOf (p .ratio)
 
 -- a node: operator 1 byte, context 1 byte, left input 2 bytes, right input 2 bytes
 abbrev pub toNode : ℕ × (ℕ × (ℕ × ℕ)) → Node

@@ -1,2 +1,3 @@
 pub mod Inputs
+pub mod Rows
 pub mod Runs

@@ -19,22 +19,6 @@ pub extern "C" fn rathunxa_work(plan: &[u8], passage: &[u8], output: &mut [u8]) 
 }
 
 #[no_mangle]
-pub extern "C" fn rathunxa_work_in(
-    plan: &[u8],
-    passage: &[u8],
-    output: &mut [u8],
-    ticks: &mut [u64; 256],
-    lefts: &mut [[[u64; 3]; 16]; 16],
-    rights: &mut [[[u64; 3]; 16]; 16],
-    made: &mut [[[u64; 3]; 8]; 17],
-) -> Answer
-    ensures answers { λ r. ⌜ Answers (worked (now (plan .entry)) (now (passage .entry)) (length (now (output .entry)))) (now (output .entry)) r (now (output .exit)) ⌝ }
-    ensures latest { λ r. ⌜ LatestExact (now (plan .entry)) (now (passage .entry)) (r .findings) (take (r .bytes) (now (output .exit))) ⌝ }
-{
-    gateway::work_in(plan, passage, output, ticks, lefts, rights, made)
-}
-
-#[no_mangle]
 pub extern "C" fn rathunxa_join(ratio: u64, list: &[Timestamp]) -> JoinAnswer
     ensures { λ r. ⌜ r ≡ joinAnswer ratio (now (list .entry)) ⌝ }
 {

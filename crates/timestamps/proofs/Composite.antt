@@ -1,27 +1,23 @@
 -- A composite timestamp and its members.
 use mathlib.Core.Path.{_≡_, refl, sym, ap, _∙_}
-use mathlib.Core.Bool.{Bool, true, false, not}
-use mathlib.Core.List.{List, [], _∷_, _++_, map, List·Memᴰ·head, List·Memᴰ·tail, List·Memᴰ·cases-cons, List·Memᴰ·not-nil, Memᴰ·cast}
-use mathlib.Core.Logic.{_⊎_, inl, inr, ⊎-elim}
-use Prim.Native.Nat.{ℕ, zero, _+_, _≤_, _<_}
+use mathlib.Core.Bool.{true, false}
+use mathlib.Core.List.{List, [], _∷_, map, List·Memᴰ·head, List·Memᴰ·tail, List·Memᴰ·cases-cons, List·Memᴰ·not-nil, Memᴰ·cast}
+use mathlib.Core.Logic.{_⊎_, ⊎-elim}
+use Prim.Native.Nat.{ℕ, _<_}
 use native.Mathlib.Omega.{arith}
-use lib.Dec.{ltb, eqb}
-use lib.ListN.{length, getD, set, replicate, length-map}
+use lib.ListN.{length, getD, length-map}
 use lib.Seq.{ext-getD}
-use borrow.Author.Tests.{eq-eqb, ne-eqb, eqb-true, eqb-false}
-use Rattle.sequences.specs.Choice.{pick}
+use borrow.Author.Tests.{eq-eqb, eqb-true, eqb-false}
 use Rattle.sequences.specs.Members.{_∈_, SameMembers}
-use Rattle.sequences.specs.Range.{range}
 use Rattle.sequences.specs.Select.{filter, any}
 use Rattle.sequences.proofs.Parts.{getD-map}
-use Rattle.sequences.proofs.Booleans.{either-way, never-both, same-test, false-of-not-true}
+use Rattle.sequences.proofs.Booleans.{either-way, never-both, same-test}
 use Rattle.sequences.proofs.Members.{map-in, map-of, map-same}
 use Rattle.sequences.proofs.Range.{range-in, range-of, length-range, getD-range}
 use Rattle.sequences.proofs.Select.{filter-in, filter-of, any-in, any-of, any-none, none-of-any}
-use Rattle.timestamps.specs.declared.LocalTick.{LocalTick}
 use Rattle.timestamps.specs.declared.Timestamp.{Timestamp}
 use Rattle.timestamps.specs.declared.CompositeTimestamp.{CompositeTimestamp}
-use Rattle.timestamps.specs.Composite.{loggerPlaces, tickZero, stampAt, presentAt, members, ofLogger, tickOf, compositeOf, noTimestamps}
+use Rattle.timestamps.specs.Composite.{loggerPlaces, tickZero, stampAt, presentAt, members, ofLogger, tickOf, compositeOf}
 
 -- two timestamps of one logger and one tick are one
 pub same-stamp : (s t : Timestamp) → s .logger ≡ t .logger → s .tick .0 ≡ t .tick .0 → s ≡ t
@@ -64,10 +60,6 @@ members-in c s h =
 -- the stamp at a place where there is one
 pub stamp-in : (c : CompositeTimestamp) (k : ℕ) → k < 8 → presentAt c k ≡ true → stampAt c k ∈ members c
 stamp-in c k h p = members-in c (stampAt c k) (record { place = h; there = p; tick = refl })
-
-pub members-none : members noTimestamps ≡ []
-unfolding members filter range
-members-none = refl
 
 -- ---- the composite of a list
 pub present-of : (l : List Timestamp) (k : ℕ) → k < 8 → presentAt (compositeOf l) k ≡ any (ofLogger k) l

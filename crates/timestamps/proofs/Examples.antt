@@ -1,16 +1,15 @@
 -- Document 01's marked examples on stamps, computed from the definitions.
 use mathlib.Core.Path.{_≡_, refl}
-use mathlib.Core.Bool.{Bool, true, false}
-use mathlib.Core.List.{List, [], _∷_}
-use Rattle.sequences.specs.Loops.{fold}
+use mathlib.Core.Bool.{true, false}
+use mathlib.Core.List.{[], _∷_}
 use Rattle.sequences.specs.Range.{range}
 use Rattle.sequences.specs.Select.{filter, any, all}
 use Rattle.timestamps.specs.Comparison.{allBefore, allConcurrent, weaklyBefore}
 use Rattle.timestamps.specs.Composite.{members, tickOf, compositeOf}
-use Rattle.timestamps.specs.Examples.{Example, holds, table, sameStamps, stamped, maxOf59}
+use Rattle.timestamps.specs.Examples.{holds, table, sameStamps, stamped, maxOf59}
 use Rattle.timestamps.specs.Join.{joinOf, groupJoin}
 use Rattle.timestamps.specs.Maxima.{maxima}
-use Rattle.timestamps.specs.Order.{before, concurrent, clearlyEarlier, globalOf}
+use Rattle.timestamps.specs.Order.{clocksOf, before, concurrent, clearlyEarlier, globalOf}
 
 -- every row of the table
 pub table-holds : all holds table ≡ true
@@ -18,14 +17,14 @@ unfolding all any filter range holds table sameStamps members tickOf compositeOf
 table-holds = refl
 
 -- pair by pair with Definition 5.9 the result depends on the grouping, and one of the two is not the join (J4)
-pub pairs-left : sameStamps (members (maxOf59 10 (maxOf59 10 (compositeOf (stamped 1 80 ∷ [])) (compositeOf (stamped 2 90 ∷ []))) (compositeOf (stamped 3 100 ∷ [])))) (stamped 3 100 ∷ []) ≡ true
+pub pairs-left : sameStamps (members (maxOf59 (clocksOf 10) (maxOf59 (clocksOf 10) (compositeOf (stamped 1 80 ∷ [])) (compositeOf (stamped 2 90 ∷ []))) (compositeOf (stamped 3 100 ∷ [])))) (stamped 3 100 ∷ []) ≡ true
 unfolding all any filter range sameStamps members tickOf compositeOf joinOf maxima before clearlyEarlier globalOf allBefore maxOf59
 pairs-left = refl
 
-pub pairs-right : sameStamps (members (maxOf59 10 (compositeOf (stamped 1 80 ∷ [])) (maxOf59 10 (compositeOf (stamped 2 90 ∷ [])) (compositeOf (stamped 3 100 ∷ []))))) (stamped 2 90 ∷ stamped 3 100 ∷ []) ≡ true
+pub pairs-right : sameStamps (members (maxOf59 (clocksOf 10) (compositeOf (stamped 1 80 ∷ [])) (maxOf59 (clocksOf 10) (compositeOf (stamped 2 90 ∷ [])) (compositeOf (stamped 3 100 ∷ []))))) (stamped 2 90 ∷ stamped 3 100 ∷ []) ≡ true
 unfolding all any filter range sameStamps members tickOf compositeOf joinOf maxima before clearlyEarlier globalOf allBefore maxOf59
 pairs-right = refl
 
-pub pairs-wrong : sameStamps (members (joinOf 10 (stamped 1 80 ∷ stamped 2 90 ∷ stamped 3 100 ∷ []))) (stamped 3 100 ∷ []) ≡ false
+pub pairs-wrong : sameStamps (members (joinOf (clocksOf 10) (stamped 1 80 ∷ stamped 2 90 ∷ stamped 3 100 ∷ []))) (stamped 3 100 ∷ []) ≡ false
 unfolding all any filter range sameStamps members tickOf compositeOf joinOf maxima before clearlyEarlier globalOf
 pairs-wrong = refl

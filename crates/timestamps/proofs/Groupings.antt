@@ -1,30 +1,33 @@
 -- Document 01, "Stamps": a grouping's join. Demand 3, second half.
-use mathlib.Core.Path.{_≡_, refl, sym, ap, _∙_}
-use mathlib.Core.Bool.{Bool, true, false}
-use mathlib.Core.List.{List, [], _∷_, _++_, Memᴰ·append-left, Memᴰ·append-right, List·Memᴰ·eq-of-singleton}
+use mathlib.Core.Path.{_≡_, sym, _∙_}
+use mathlib.Core.Bool.{true, false}
+use mathlib.Core.List.{List, [], _∷_, _++_, Memᴰ·append-left, Memᴰ·append-right}
 use mathlib.Core.Logic.{_↔_}
 use Prim.Native.Nat.{ℕ, _≤_, _<_}
 use native.Mathlib.Omega.{arith}
+use lib.Dec.{leb}
 use borrow.Author.Tests.{leb-true}
 use Rattle.sequences.specs.Members.{_∈_, SameMembers}
 use Rattle.sequences.specs.Select.{all}
-use Rattle.sequences.proofs.Booleans.{and-left}
-use Rattle.sequences.proofs.Members.{same-refl}
+use Rattle.sequences.proofs.Booleans.{and-left, and-right}
 use Rattle.sequences.proofs.Select.{all-of}
 use Rattle.timestamps.specs.declared.Timestamp.{Timestamp}
-use Rattle.timestamps.specs.declared.CompositeTimestamp.{CompositeTimestamp}
-use Rattle.timestamps.specs.Composite.{members, compositeOf}
+use Rattle.timestamps.specs.Composite.{members}
 use Rattle.timestamps.specs.Join.{joinOf, Grouping, Parts, stamp, group, last, more, groupJoin, partJoins, leaves, partLeaves}
 use Rattle.timestamps.specs.Maxima.{maxima}
-use Rattle.timestamps.specs.Order.{before, valid, validRatio}
+use Rattle.timestamps.specs.Order.{Clocks, before, clocksOf, largestTick, valid, validRatio}
 use Rattle.timestamps.proofs.Join.{Placeable, joinOf-covered, joinOf-covers, joinOf-one, joinOf-same, members-joinOf}
 use Rattle.timestamps.proofs.Maxima.{Covers, covers-append, covers-trans, maxima-of, maxima-in}
 use Rattle.timestamps.proofs.Order.{before-strict}
 
--- a valid stamp has one of the eight places
+-- a valid stamp has one of the eight places, and a tick that is not too large
 pub valid-place : (s : Timestamp) → valid s ≡ true → s .logger < 8
 unfolding valid
 valid-place s v = let h : s .logger ≤ 7 = leb-true (s .logger) 7 (and-left _ _ v) in omega arith
+
+pub valid-tick : (s : Timestamp) → valid s ≡ true → s .tick .0 ≤ largestTick
+unfolding valid
+valid-tick s v = leb-true (s .tick .0) largestTick (and-right (leb (s .logger) 7) (leb (s .tick .0) largestTick) v)
 
 pub valid-placeable : (l : List Timestamp) → all valid l ≡ true → Placeable l
 valid-placeable l v s m = valid-place s (all-of valid l v m)
@@ -39,36 +42,36 @@ second-part l m h s i = h s (Memᴰ·append-right l i)
 mutual
   unfolding groupJoin leaves
 
-  pub grouping-covers : (ratio : ℕ) (g : Grouping) → Placeable (leaves g) → Covers (before ratio) (members (groupJoin ratio g)) (leaves g)
-  grouping-covers ratio (stamp s) h = rw (← joinOf-one ratio s) (joinOf-covers ratio (s ∷ []) h)
-  grouping-covers ratio (group ps) h =
-      covers-trans (before ratio) (before-strict ratio) (members (joinOf ratio (partJoins ratio ps))) (partJoins ratio ps) (partLeaves ps)
-      (joinOf-covers ratio (partJoins ratio ps) (λ s m. h s (parts-cover ratio ps h .within s m))) (parts-cover ratio ps h)
+  pub grouping-covers : (clocks : Clocks) (g : Grouping) → Placeable (leaves g) → Covers (before clocks) (members (groupJoin clocks g)) (leaves g)
+  grouping-covers clocks (stamp s) h = rw (← joinOf-one clocks s) (joinOf-covers clocks (s ∷ []) h)
+  grouping-covers clocks (group ps) h =
+      covers-trans (before clocks) (before-strict clocks) (members (joinOf clocks (partJoins clocks ps))) (partJoins clocks ps) (partLeaves ps)
+      (joinOf-covers clocks (partJoins clocks ps) (λ s m. h s (parts-cover clocks ps h .within s m))) (parts-cover clocks ps h)
 
-  pub parts-cover : (ratio : ℕ) (ps : Parts) → Placeable (partLeaves ps) → Covers (before ratio) (partJoins ratio ps) (partLeaves ps)
-  parts-cover ratio (last g) h = grouping-covers ratio g h
-  parts-cover ratio (more g ps) h =
-      covers-append (before ratio) (members (groupJoin ratio g)) (leaves g) (partJoins ratio ps) (partLeaves ps)
-      (grouping-covers ratio g (first-part (leaves g) (partLeaves ps) h)) (parts-cover ratio ps (second-part (leaves g) (partLeaves ps) h))
+  pub parts-cover : (clocks : Clocks) (ps : Parts) → Placeable (partLeaves ps) → Covers (before clocks) (partJoins clocks ps) (partLeaves ps)
+  parts-cover clocks (last g) h = grouping-covers clocks g h
+  parts-cover clocks (more g ps) h =
+      covers-append (before clocks) (members (groupJoin clocks g)) (leaves g) (partJoins clocks ps) (partLeaves ps)
+      (grouping-covers clocks g (first-part (leaves g) (partLeaves ps) h)) (parts-cover clocks ps (second-part (leaves g) (partLeaves ps) h))
 
 -- ---- a grouping's join is the join of its leaves
-pub grouping-join : (ratio : ℕ) (g : Grouping) → Placeable (leaves g) → groupJoin ratio g ≡ joinOf ratio (leaves g)
+pub grouping-join : (clocks : Clocks) (g : Grouping) → Placeable (leaves g) → groupJoin clocks g ≡ joinOf clocks (leaves g)
 unfolding groupJoin leaves
-grouping-join ratio (stamp s) h = sym (joinOf-one ratio s)
-grouping-join ratio (group ps) h = joinOf-covered ratio (partJoins ratio ps) (partLeaves ps) (parts-cover ratio ps h)
+grouping-join clocks (stamp s) h = sym (joinOf-one clocks s)
+grouping-join clocks (group ps) h = joinOf-covered clocks (partJoins clocks ps) (partLeaves ps) (parts-cover clocks ps h)
 
 -- ---- the theorem: for one valid ratio and any grouping of valid stamps, of any size and depth, the stamps of the join are exactly those of
 -- the grouping that are before none of it
 pub grouping-latest : (ratio : ℕ) (g : Grouping) → validRatio ratio ≡ true → all valid (leaves g) ≡ true
-    → (s : Timestamp) → (s ∈ members (groupJoin ratio g)) ↔ ((s ∈ leaves g) × ((t : Timestamp) → t ∈ leaves g → before ratio s t ≡ false))
+    → (s : Timestamp) → (s ∈ members (groupJoin (clocksOf ratio) g)) ↔ ((s ∈ leaves g) × ((t : Timestamp) → t ∈ leaves g → before (clocksOf ratio) s t ≡ false))
 grouping-latest ratio g r v s =
     let h : Placeable (leaves g) = valid-placeable (leaves g) v in
-    let w : SameMembers (members (joinOf ratio (leaves g))) (maxima (before ratio) (leaves g)) = members-joinOf ratio (leaves g) h in
-    rw (grouping-join ratio g h)
-    (λ m. maxima-of (before ratio) (leaves g) s (w .0 s m), λ p. w .1 s (maxima-in (before ratio) (leaves g) s (p .0) (p .1)))
+    let w : SameMembers (members (joinOf (clocksOf ratio) (leaves g))) (maxima (before (clocksOf ratio)) (leaves g)) = members-joinOf (clocksOf ratio) (leaves g) h in
+    rw (grouping-join (clocksOf ratio) g h)
+    (λ m. maxima-of (before (clocksOf ratio)) (leaves g) s (w .0 s m), λ p. w .1 s (maxima-in (before (clocksOf ratio)) (leaves g) s (p .0) (p .1)))
 
 -- in whichever order and however often each stamp is repeated
 pub grouping-same : (ratio : ℕ) (g h : Grouping) → validRatio ratio ≡ true → all valid (leaves g) ≡ true → all valid (leaves h) ≡ true
-    → SameMembers (leaves g) (leaves h) → groupJoin ratio g ≡ groupJoin ratio h
+    → SameMembers (leaves g) (leaves h) → groupJoin (clocksOf ratio) g ≡ groupJoin (clocksOf ratio) h
 grouping-same ratio g h r v w same =
-    grouping-join ratio g (valid-placeable (leaves g) v) ∙ joinOf-same ratio (leaves g) (leaves h) same ∙ sym (grouping-join ratio h (valid-placeable (leaves h) w))
+    grouping-join (clocksOf ratio) g (valid-placeable (leaves g) v) ∙ joinOf-same (clocksOf ratio) (leaves g) (leaves h) same ∙ sym (grouping-join (clocksOf ratio) h (valid-placeable (leaves h) w))

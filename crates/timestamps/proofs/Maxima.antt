@@ -7,7 +7,6 @@ use borrow.Author.Tests.{not-true}
 use Rattle.sequences.specs.Members.{_∈_, SameMembers}
 use Rattle.sequences.specs.Select.{any}
 use Rattle.sequences.proofs.Booleans.{either-way, never-both, false-of-not-true}
-use Rattle.sequences.proofs.Members.{same-trans, same-sym}
 use Rattle.sequences.proofs.Select.{filter-in, filter-of, any-none, none-of-any}
 use Rattle.timestamps.specs.Maxima.{maxima, StrictOrder}
 

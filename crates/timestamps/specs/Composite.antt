@@ -1,15 +1,18 @@
 -- Document 01, "Stamps": composite stamps. A composite has at most one stamp for each logger place.
 use mathlib.Core.Bool.{Bool, true, false}
 use mathlib.Core.List.{List, [], _∷_, map}
+use mathlib.Core.Path.{_≡_}
 use Prim.Native.Nat.{ℕ}
-use lib.Dec.{eqb, ltb}
-use lib.ListN.{getD, set, replicate}
+use lib.Dec.{eqb}
+use lib.ListN.{getD, replicate}
 use Rattle.sequences.specs.Choice.{pick}
+use Rattle.sequences.specs.Members.{_∈_}
 use Rattle.sequences.specs.Range.{range}
 use Rattle.sequences.specs.Select.{filter, any}
 use Rattle.timestamps.specs.declared.LocalTick.{LocalTick}
 use Rattle.timestamps.specs.declared.Timestamp.{Timestamp}
 use Rattle.timestamps.specs.declared.CompositeTimestamp.{CompositeTimestamp}
+use Rattle.timestamps.specs.Order.{Clocks, concurrent}
 
 -- the eight logger places
 abbrev pub loggerPlaces : List ℕ
@@ -45,3 +48,8 @@ compositeOf l = record { present = map (λ k. any (ofLogger k) l) loggerPlaces; 
 -- no stamps
 abbrev pub noTimestamps : CompositeTimestamp
 noTimestamps = record { present = replicate 8 false; ticks = replicate 8 tickZero }
+
+-- a composite stamp, by its stamps: there is one, and they are pairwise concurrent
+pub record IsComposite (clocks : Clocks) (l : List Timestamp) : Type 0 where
+  pub some : (s : Timestamp) × (s ∈ l)
+  pub pairwise : (s t : Timestamp) → s ∈ l → t ∈ l → concurrent clocks s t ≡ true

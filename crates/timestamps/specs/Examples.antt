@@ -8,8 +8,8 @@ use Rattle.timestamps.specs.declared.Timestamp.{Timestamp}
 use Rattle.timestamps.specs.declared.CompositeTimestamp.{CompositeTimestamp}
 use Rattle.timestamps.specs.Comparison.{allBefore, allConcurrent, weaklyBefore}
 use Rattle.timestamps.specs.Composite.{members}
-use Rattle.timestamps.specs.Join.{joinOf, Grouping, Parts, stamp, group, last, more, groupJoin}
-use Rattle.timestamps.specs.Order.{largestTick}
+use Rattle.timestamps.specs.Join.{joinOf, Grouping, stamp, group, last, more, groupJoin}
+use Rattle.timestamps.specs.Order.{Clocks, clocksOf, largestTick}
 
 abbrev pub stamped : ℕ → ℕ → Timestamp
 stamped logger tick = record { logger = logger; tick = record { 0 = tick } }
@@ -27,8 +27,8 @@ sameStamps (s ∷ l) (t ∷ m) = eqb (s .logger) (t .logger) && (eqb (s .tick .0
 
 -- what the row says holds
 unfoldable pub holds : Example → Bool
-holds (joins g l) = sameStamps (members (groupJoin 10 g)) l
-holds (weakly a b) = not (allBefore 10 a b) && (not (allBefore 10 b a) && (not (allConcurrent 10 a b) && weaklyBefore 10 a b))
+holds (joins g l) = sameStamps (members (groupJoin (clocksOf 10) g)) l
+holds (weakly a b) = not (allBefore (clocksOf 10) a b) && (not (allBefore (clocksOf 10) b a) && (not (allConcurrent (clocksOf 10) a b) && weaklyBefore (clocksOf 10) a b))
 
 -- groupings of two and three parts
 abbrev pub two : Grouping → Grouping → Grouping
@@ -71,8 +71,8 @@ table =
     ∷ []
 
 -- Definition 5.9 of the thesis: the later of two composites where one is before the other, else their join
-unfoldable pub maxOf59 : ℕ → CompositeTimestamp → CompositeTimestamp → CompositeTimestamp
-maxOf59 ratio a b =
-    pick (allBefore ratio (members b) (members a)) a
-    (pick (allBefore ratio (members a) (members b)) b
-    (joinOf ratio (members a ++ members b)))
+unfoldable pub maxOf59 : Clocks → CompositeTimestamp → CompositeTimestamp → CompositeTimestamp
+maxOf59 clocks a b =
+    pick (allBefore clocks (members b) (members a)) a
+    (pick (allBefore clocks (members a) (members b)) b
+    (joinOf clocks (members a ++ members b)))

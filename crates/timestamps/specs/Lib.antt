@@ -4,4 +4,3 @@ pub mod Examples
 pub mod Join
 pub mod Maxima
 pub mod Order
-pub mod Steps

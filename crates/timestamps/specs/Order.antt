@@ -1,5 +1,5 @@
 -- Document 01, "Stamps": stamps and their order.
-use mathlib.Core.Bool.{Bool, true, false, not, _&&_}
+use mathlib.Core.Bool.{Bool, not, _&&_}
 use Prim.Native.Nat.{ℕ, _+_, _-_, _/_, _^_}
 use lib.Dec.{ltb, leb, eqb}
 use Rattle.sequences.specs.Choice.{pick}
@@ -7,24 +7,39 @@ use Rattle.timestamps.specs.declared.LocalTick.{LocalTick}
 use Rattle.timestamps.specs.declared.GlobalTick.{GlobalTick}
 use Rattle.timestamps.specs.declared.Timestamp.{Timestamp}
 
--- the global tick: the local tick divided by the ratio, rounded down
-unfoldable pub globalOf : ℕ → LocalTick → GlobalTick
-globalOf ratio t = record { 0 = t .0 / ratio }
+-- the clocks of the loggers, by how many local ticks are in a global tick: one ratio for all of them
+pub record Clocks : Type 0 where
+  pub ratio : ℕ
+
+abbrev pub clocksOf : ℕ → Clocks
+clocksOf ratio = record { ratio = ratio }
+
+-- the ratio of the logger at a place
+abbrev pub ratioOf : Clocks → ℕ → ℕ
+ratioOf clocks place = clocks .ratio
+
+-- a local tick divided by a ratio, rounded down
+abbrev pub quotient : ℕ → LocalTick → GlobalTick
+quotient ratio t = record { 0 = t .0 / ratio }
+
+-- the global tick of a stamp: its local tick divided by the ratio of its logger
+unfoldable pub globalOf : Clocks → Timestamp → GlobalTick
+globalOf clocks s = quotient (ratioOf clocks (s .logger)) (s .tick)
 
 -- a global tick plus 1 is less than another
 unfoldable pub clearlyEarlier : GlobalTick → GlobalTick → Bool
 clearlyEarlier g h = ltb (g .0 + 1) (h .0)
 
 -- s is before t: one logger and a smaller local tick, or two loggers and s's global tick plus 1 is less than t's
-unfoldable pub before : ℕ → Timestamp → Timestamp → Bool
-before ratio s t =
+unfoldable pub before : Clocks → Timestamp → Timestamp → Bool
+before clocks s t =
     pick (eqb (s .logger) (t .logger))
     (ltb (s .tick .0) (t .tick .0))
-    (clearlyEarlier (globalOf ratio (s .tick)) (globalOf ratio (t .tick)))
+    (clearlyEarlier (globalOf clocks s) (globalOf clocks t))
 
 -- neither is before the other
-unfoldable pub concurrent : ℕ → Timestamp → Timestamp → Bool
-concurrent ratio s t = not (before ratio s t) && not (before ratio t s)
+unfoldable pub concurrent : Clocks → Timestamp → Timestamp → Bool
+concurrent clocks s t = not (before clocks s t) && not (before clocks t s)
 
 -- a local tick is at most 2^63 − 1
 abbrev pub largestTick : ℕ

@@ -1,7 +1,8 @@
 // Timestamps of loggers with separate clocks, and their order. The specification has composite timestamps, their join and their comparison.
 ghost use mathlib.Core.Path.{_≡_};
+ghost use Prim.Native.Nat.{max, min};
 ghost use lib.Dec.{ltb};
-ghost use Rattle.timestamps.specs.Order.{before, blank, clearlyEarlier, globalOf, valid, validRatio};
+ghost use Rattle.timestamps.specs.Order.{blank, clearlyEarlier, quotient, valid, validRatio};
 
 // ---- timestamps
 
@@ -22,7 +23,7 @@ pub struct Timestamp {
 impl LocalTick {
     // The global tick: the one place where a local tick becomes one. A ratio of 0 gives 0.
     pub fn global(self, ratio: u64) -> GlobalTick
-        ensures { λ r. ⌜ r ≡ globalOf ratio self ⌝ }
+        ensures { λ r. ⌜ r ≡ quotient ratio self ⌝ }
     {
         if ratio == 0 {
             GlobalTick(0)
@@ -44,11 +45,31 @@ impl GlobalTick {
     pub fn clearly_earlier(self, other: GlobalTick) -> bool
         ensures { λ r. ⌜ r ≡ clearlyEarlier self other ⌝ }
     {
-        if self.0 < other.0 {
-            1 < other.0 - self.0
-        } else {
+        if other.0 == 0 {
             false
+        } else {
+            self.0 < other.0 - 1
         }
+    }
+
+    pub fn earlier(self, other: GlobalTick) -> bool
+        ensures { λ r. ⌜ r ≡ ltb (self .0) (other .0) ⌝ }
+    {
+        self.0 < other.0
+    }
+
+    // The earlier of two.
+    pub fn earliest(self, other: GlobalTick) -> GlobalTick
+        ensures { λ r. ⌜ r .0 ≡ min (self .0) (other .0) ⌝ }
+    {
+        if other.0 < self.0 { other } else { self }
+    }
+
+    // The later of two.
+    pub fn latest(self, other: GlobalTick) -> GlobalTick
+        ensures { λ r. ⌜ r .0 ≡ max (self .0) (other .0) ⌝ }
+    {
+        if self.0 < other.0 { other } else { self }
     }
 }
 
@@ -76,20 +97,6 @@ impl Timestamp {
             false
         } else {
             self.tick.0 <= Timestamp::MAX_TICK
-        }
-    }
-
-    pub fn before(self, other: Timestamp, ratio: u64) -> bool
-        ensures { λ r. ⌜ r ≡ before ratio self other ⌝ }
-    {
-        let s = self.tick;
-        let t = other.tick;
-        if self.logger == other.logger {
-            s.earlier(t)
-        } else {
-            let g = s.global(ratio);
-            let h = t.global(ratio);
-            g.clearly_earlier(h)
         }
     }
 }

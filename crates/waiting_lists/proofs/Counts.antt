@@ -1,13 +1,13 @@
 -- How many wait after an append and after a removal.
 use mathlib.Core.Path.{_≡_, refl, sym, ap, _∙_}
 use mathlib.Core.Bool.{Bool, true, false}
-use mathlib.Core.List.{List, [], _∷_, map}
+use mathlib.Core.List.{List, [], _∷_}
 use mathlib.Core.Logic.{⊎-elim}
 use Prim.Native.Nat.{ℕ, zero, suc, min, _+_, _≤_, _<_}
 use native.Mathlib.Numerals.{add-one}
 use native.Mathlib.Omega.{arith}
 use lib.Dec.{ltb}
-use lib.ListN.{drop, getD, length, set, take}
+use lib.ListN.{drop, getD, length, length-take, set, take}
 use lib.Seq.{drop-cons}
 use borrow.Author.Tests.{lt-ltb, le-ltb, ltb-true, ltb-false}
 use Rattle.sequences.specs.Choice.{pick}
@@ -15,8 +15,6 @@ use Rattle.sequences.specs.Marks.{unmarked}
 use Rattle.sequences.specs.Range.{range}
 use Rattle.sequences.proofs.Booleans.{either-way}
 use Rattle.sequences.proofs.Range.{length-range}
-use Rattle.occurrences.specs.Packed.{held, occurrenceOf}
-use Rattle.occurrences.proofs.Packed.{length-held}
 use Rattle.waiting_lists.specs.declared.AfterAppend.{AfterAppend}
 use Rattle.waiting_lists.specs.declared.WaitingList.{WaitingList}
 use Rattle.waiting_lists.specs.Steps.{fewer, oneMore}
@@ -33,34 +31,34 @@ unfolding oneMore
 more-full w h = rw (le-ltb (w .len) 16 h) (refl, refl)
 
 -- the row with the new one in the place that it takes, or the row as it was
-module _ (ticks : List ℕ) (row : List (List ℕ)) (n : ℕ) (o : List ℕ) (whole : length row ≡ 16) (r : AfterAppend) (e : r ≡ oneMore (record { len = n })) where
-  pub more-put : r .place < 16 → held ticks (set row (r .place) o) (r .list .len) ≡ appendedTo (held ticks row n) (occurrenceOf ticks o)
+module _ {A : Type 0} (row : List A) (n : ℕ) (o : A) (whole : length row ≡ 16) (r : AfterAppend) (e : r ≡ oneMore (record { len = n })) where
+  pub more-put : r .place < 16 → take (r .list .len) (set row (r .place) o) ≡ appendedTo (take n row) o
   more-put h = ⊎-elim room none (either-way (ltb n 16))
     where
-      room : ltb n 16 ≡ true → held ticks (set row (r .place) o) (r .list .len) ≡ appendedTo (held ticks row n) (occurrenceOf ticks o)
+      room : ltb n 16 ≡ true → take (r .list .len) (set row (r .place) o) ≡ appendedTo (take n row) o
       room t =
           let m = more-room (record { len = n }) (ltb-true n 16 t) in
-          rw (e, m .0, m .1) (append-has-room ticks row n o whole (ltb-true n 16 t) .1)
+          rw (e, m .0, m .1) (append-has-room row n o whole (ltb-true n 16 t) .1)
 
-      none : ltb n 16 ≡ false → held ticks (set row (r .place) o) (r .list .len) ≡ appendedTo (held ticks row n) (occurrenceOf ticks o)
+      none : ltb n 16 ≡ false → take (r .list .len) (set row (r .place) o) ≡ appendedTo (take n row) o
       none t =
           let m = more-full (record { len = n }) (ltb-false n 16 t) in
           let p : r .place ≡ 16 = ap (λ (a : AfterAppend). a .place) e ∙ m .0 in
           absurd (omega (arith, h, p))
 
-  pub more-left : 16 ≤ r .place → held ticks row (r .list .len) ≡ appendedTo (held ticks row n) (occurrenceOf ticks o)
+  pub more-left : 16 ≤ r .place → take (r .list .len) row ≡ appendedTo (take n row) o
   more-left h = ⊎-elim room none (either-way (ltb n 16))
     where
-      room : ltb n 16 ≡ true → held ticks row (r .list .len) ≡ appendedTo (held ticks row n) (occurrenceOf ticks o)
+      room : ltb n 16 ≡ true → take (r .list .len) row ≡ appendedTo (take n row) o
       room t =
           let m = more-room (record { len = n }) (ltb-true n 16 t) in
           let p : r .place ≡ n = ap (λ (a : AfterAppend). a .place) e ∙ m .0 in
           absurd (omega (arith, h, p, ltb-true n 16 t))
 
-      none : ltb n 16 ≡ false → held ticks row (r .list .len) ≡ appendedTo (held ticks row n) (occurrenceOf ticks o)
+      none : ltb n 16 ≡ false → take (r .list .len) row ≡ appendedTo (take n row) o
       none t =
           let m = more-full (record { len = n }) (ltb-false n 16 t) in
-          rw (e, m .1) (append-is-full ticks row n o whole (ltb-false n 16 t) .1)
+          rw (e, m .1) (append-is-full row n o whole (ltb-false n 16 t) .1)
 
 -- ---- those not marked
 -- one place at a time, as a loop goes
@@ -91,10 +89,10 @@ take-again (suc n) [] = refl
 take-again (suc n) (a ∷ l) = ap (λ k. a ∷ k) (take-again n l)
 
 -- the list after a removal and its row that was closed up
-pub rest-held : (ticks : List ℕ) (row closed : List (List ℕ)) (n k : ℕ) (gone : List Bool) → length row ≡ 16 → held ticks closed k ≡ unmarked (held ticks row n) gone
-    → held ticks closed (fewer (record { len = n }) gone .len) ≡ unmarked (held ticks row n) gone
+pub rest-kept : {A : Type 0} (row closed : List A) (n k : ℕ) (gone : List Bool) → length row ≡ 16 → take k closed ≡ unmarked (take n row) gone
+    → take (fewer (record { len = n }) gone .len) closed ≡ unmarked (take n row) gone
 unfolding fewer
-rest-held ticks row closed n k gone whole e =
-    let same : length (range 0 (min n 16)) ≡ length (held ticks row n) = length-range 0 (min n 16) ∙ sym (length-held ticks row n ∙ ap (min n) whole) in
-    let many : length (unmarked (range 0 (min n 16)) gone) ≡ length (held ticks closed k) = count-same (range 0 (min n 16)) (held ticks row n) gone same ∙ sym (ap length e) in
-    rw many (take-again k (map (occurrenceOf ticks) closed) ∙ e)
+rest-kept row closed n k gone whole e =
+    let same : length (range 0 (min n 16)) ≡ length (take n row) = length-range 0 (min n 16) ∙ sym (length-take n row ∙ ap (min n) whole) in
+    let many : length (unmarked (range 0 (min n 16)) gone) ≡ length (take k closed) = count-same (range 0 (min n 16)) (take n row) gone same ∙ sym (ap length e) in
+    rw many (take-again k closed ∙ e)

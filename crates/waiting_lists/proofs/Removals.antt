@@ -1,7 +1,7 @@
 -- Removals in place: those that stay close up in order.
 use mathlib.Core.Path.{_≡_, refl, sym, ap, _∙_}
 use mathlib.Core.Bool.{Bool, true, false}
-use mathlib.Core.List.{List, [], _∷_, _++_, append-nil, map}
+use mathlib.Core.List.{List, [], _∷_, _++_, append-nil}
 use Prim.Native.Nat.{ℕ, min, _+_, _≤_, _<_}
 use native.Mathlib.Numerals.{add-one}
 use native.Mathlib.Omega.{arith}
@@ -11,11 +11,6 @@ use lib.ListN.{length, getD, take, drop, set, length-take, length-set}
 use lib.Seq.{append-snoc, take-all, drop-drop, drop-set-lt, getD-drop, getD-take, take-suc-set, take-take}
 use Rattle.sequences.specs.Marks.{unmarked, firstMark}
 use Rattle.sequences.proofs.Marks.{unmarked-yes, unmarked-no, unmarked-none, unmarked-end, unmarked-fewer, unmarked-first}
-use Rattle.sequences.proofs.Arrays.{map-set}
-use Rattle.sequences.proofs.Parts.{getD-map}
-use Rattle.occurrences.specs.declared.Occurrence.{Occurrence}
-use Rattle.occurrences.specs.Occurrences.{blank}
-use Rattle.occurrences.specs.Packed.{held, occurrenceOf}
 use Rattle.waiting_lists.specs.Waiting.{isFull}
 
 -- a loop has looked at the first i of n places, and k of those stay: they stand in front, and from place i on all is as it was
@@ -73,17 +68,6 @@ module _ {A : Type 0} (items : List A) (n : ℕ) (gone : List Bool) where
   pub closing-end : (now : List A) (k i : ℕ) → Closing now k i → length (take n items) ≤ i → take k now ≡ unmarked (take n items) gone
   closing-end now k i c past = sym (append-nil (take k now)) ∙ ap (λ l. take k now ++ l) (sym (unmarked-end (take n items) gone i past)) ∙ c .closed
 
--- ---- in a row of packed occurrences
-module _ (ticks : List ℕ) (row now : List (List ℕ)) (n : ℕ) (gone : List Bool) (k i : ℕ) (c : Closing (map (occurrenceOf ticks) row) n gone (map (occurrenceOf ticks) now) k i) where
-  pub row-kept : i < length (held ticks row n) → i < length gone → i < length now → k ≤ i → getD gone i false ≡ false
-      → Closing (map (occurrenceOf ticks) row) n gone (map (occurrenceOf ticks) (set now k (getD now i []))) (k + 1) (i + 1)
-  row-kept in-l in-gone in-now h e =
-      rw (map-set (occurrenceOf ticks) now k (getD now i []))
-      (closing-kept (map (occurrenceOf ticks) row) n gone (map (occurrenceOf ticks) now) k i blank c in-l in-gone (occurrenceOf ticks (getD now i [])) h (sym (getD-map (occurrenceOf ticks) now i [] blank in-now)) e)
-
-  pub row-gone : i < length (held ticks row n) → i < length gone → getD gone i false ≡ true → Closing (map (occurrenceOf ticks) row) n gone (map (occurrenceOf ticks) now) k (i + 1)
-  row-gone in-l in-gone e = closing-gone (map (occurrenceOf ticks) row) n gone (map (occurrenceOf ticks) now) k i blank c in-l in-gone e
-
 -- ---- where no place is marked nothing goes
 pub unmarked-clear : {A : Type 0} (l : List A) (gone : List Bool) → length gone ≤ firstMark gone → unmarked l gone ≡ l
 unfolding unmarked firstMark
@@ -93,7 +77,7 @@ unmarked-clear (a ∷ l) (true ∷ gone) h = absurd (omega arith)
 unmarked-clear (a ∷ l) (false ∷ gone) h = ap (λ r. a ∷ r) (unmarked-clear l gone (omega arith))
 
 -- ---- freed places are used again: where one of the list is marked there is room for an append
-pub freed-room : (l : List Occurrence) (gone : List Bool) → length l ≤ 16 → firstMark gone < length l → firstMark gone < length gone
+pub freed-room : {A : Type 0} (l : List A) (gone : List Bool) → length l ≤ 16 → firstMark gone < length l → firstMark gone < length gone
     → isFull (unmarked l gone) ≡ false
 unfolding isFull
 freed-room l gone h i j = lt-leb 16 (length (unmarked l gone)) (omega (arith, unmarked-fewer l gone i j))

@@ -1,12 +1,10 @@
 // Waiting lists: at most 16 occurrences, in waiting order. They stand in a row of 16 packed occurrences, which is lent beside the list.
 ghost use mathlib.Core.Bool.{false, true};
-ghost use mathlib.Core.List.{List};
 ghost use mathlib.Core.Path.{_≡_};
-ghost use Prim.Native.Nat.{ℕ, min, _≤_, _<_};
-ghost use lib.ListN.{getD, length, set};
+ghost use Prim.Native.Nat.{min, _≤_, _<_};
+ghost use lib.ListN.{getD, length, set, take};
 ghost use Rattle.sequences.specs.Choice.{pick};
 ghost use Rattle.sequences.specs.Marks.{firstMark, unmarked};
-ghost use Rattle.occurrences.specs.Packed.{held, occurrenceOf};
 ghost use Rattle.waiting_lists.specs.Marks.{marksOf};
 ghost use Rattle.waiting_lists.specs.Steps.{fewer, oneMore};
 ghost use Rattle.waiting_lists.specs.Waiting.{appendedTo};
@@ -31,7 +29,7 @@ pub fn count(n: usize) -> usize
 
 // How many of a row wait.
 pub fn count_in(list: &[[u64; 3]; 16], n: usize) -> usize
-    ensures { λ r. ⌜ ((ticks : List ℕ) → r ≡ length (held ticks (now (list .entry)) n)) × (r ≤ 16) × (length (now (list .entry)) ≡ 16) ⌝ }
+    ensures { λ r. ⌜ (r ≡ length (take n (now (list .entry)))) × (r ≤ 16) × (length (now (list .entry)) ≡ 16) × (r ≡ min n 16) ⌝ }
 {
     let places = list[..].len();
     if n < places { n } else { places }
@@ -145,7 +143,7 @@ fn without(list: WaitingList, gone: u64) -> WaitingList
 
 // One more at the end, unless the list is full: how many wait then.
 pub fn append_to(row: &mut [[u64; 3]; 16], waiting: usize, o: &[u64; 3]) -> usize
-    ensures { λ r. ⌜ ((ticks : List ℕ) → held ticks (now (row .exit)) r ≡ appendedTo (held ticks (now (row .entry)) waiting) (occurrenceOf ticks (now (o .entry)))) ⌝ }
+    ensures { λ r. ⌜ take r (now (row .exit)) ≡ appendedTo (take waiting (now (row .entry))) (now (o .entry)) ⌝ }
 {
     let list = WaitingList { len: waiting };
     let a = with_one_more(list);
@@ -167,7 +165,7 @@ fn earlier(a: usize, b: usize) -> usize
 
 // Those of a row that are not marked close up in order.
 fn close_up(row: &mut [[u64; 3]; 16], waiting: usize, gone: u64) -> usize
-    ensures { λ r. ⌜ ((ticks : List ℕ) → held ticks (now (row .exit)) r ≡ unmarked (held ticks (now (row .entry)) waiting) (marksOf gone)) ⌝ }
+    ensures { λ r. ⌜ take r (now (row .exit)) ≡ unmarked (take waiting (now (row .entry))) (marksOf gone) ⌝ }
 {
     let first = first_marked(gone);
     let n = count_in(row, waiting);
@@ -188,7 +186,7 @@ fn close_up(row: &mut [[u64; 3]; 16], waiting: usize, gone: u64) -> usize
 
 // Those that are not marked close up in order: how many wait then.
 pub fn remove_from(row: &mut [[u64; 3]; 16], waiting: usize, gone: u64) -> usize
-    ensures { λ r. ⌜ ((ticks : List ℕ) → held ticks (now (row .exit)) r ≡ unmarked (held ticks (now (row .entry)) waiting) (marksOf gone)) ⌝ }
+    ensures { λ r. ⌜ take r (now (row .exit)) ≡ unmarked (take waiting (now (row .entry))) (marksOf gone) ⌝ }
 {
     if first_marked(gone) == 16 {
         return waiting;

@@ -17,14 +17,14 @@ use Rattle.sequences.proofs.Parts.{getD-map}
 use Rattle.sequences.proofs.Rising.{keys-same, later-rises}
 use Rattle.timestamps.specs.declared.Timestamp.{Timestamp}
 use Rattle.timestamps.specs.Composite.{members, presentAt, stampAt}
-use Rattle.timestamps.specs.Order.{before, blank as blankStamp, clearlyEarlier, globalOf}
+use Rattle.timestamps.specs.Order.{Clocks, before, blank as blankStamp, clearlyEarlier, globalOf}
 use Rattle.timestamps.proofs.Composite.{at-place, stamp-in}
 use Rattle.event_sets.specs.Sets.{elements, has}
 use Rattle.event_sets.proofs.Members.{elements-has}
 use Rattle.occurrences.specs.declared.Occurrence.{Occurrence}
 use Rattle.occurrences.specs.Latest.{Exact, stampsAt}
 use Rattle.forms.specs.Bytes.{Bytes}
-use Rattle.plans.specs.Layout.{Plan}
+use Rattle.plans.specs.Layout.{Plan, planClocks}
 use Rattle.plans.specs.Limits.{NumbersOk, PlanOk}
 use Rattle.passages.specs.declared.EventEntry.{EventEntry}
 use Rattle.passages.specs.Events.{noEvent, passageEvents, placed, placeIn}
@@ -65,10 +65,10 @@ module _ (loggers : List ℕ) (ok : NumbersOk 8 loggers) where
       number : ℕ → ℕ
       number m = getD (numbersByPlace loggers) m 0
 
-  before-written : (ratio : ℕ) (t u : Timestamp) → t .logger < length loggers → u .logger < length loggers
-      → isBefore ratio (written (numbersByPlace loggers) t) (written (numbersByPlace loggers) u) ≡ before ratio t u
-  unfolding before
-  before-written ratio t u h k = rw (same-logger (t .logger) (u .logger) h k)
+  before-written : (clocks : Clocks) (t u : Timestamp) → t .logger < length loggers → u .logger < length loggers
+      → isBefore clocks (written (numbersByPlace loggers) t) (written (numbersByPlace loggers) u) ≡ before clocks t u
+  unfolding before globalOf
+  before-written clocks t u h k = rw (same-logger (t .logger) (u .logger) h k)
 
 -- ---- the stamps of events, by place and by number
 abbrev stampsIn : Plan → List ℕ → List Timestamp
@@ -91,10 +91,10 @@ module _ (p : Plan) (passage : List ℕ) (es : List EventEntry) (ok : PlanOk p) 
   written-entry j k =
       let m = member-place (p .loggers) _ (entry-ok j k .logger) in
       let n = number-at (p .loggers) (ok .loggers) (placeIn (p .loggers) (getD es j noEntry .logger)) (m .0) ∙ m .1 in
-      ap (written (numbersByPlace (p .loggers))) (stamp-at j k) ∙ (λ i. record { logger = n i; tick = record { 0 = getD es j noEntry .tick } })
+      ap (written (numbersByPlace (p .loggers))) (stamp-at j k) ∙ (λ i. record { logger = n i; tick = getD es j noEntry .tick })
 
   -- ---- an occurrence of the passage
-  module _ (o : Occurrence) (x : Exact (p .ratio) (stampsIn p passage) o) where
+  module _ (o : Occurrence) (x : Exact (planClocks p) (stampsIn p passage) o) where
     event-within : (j : ℕ) → j ∈ elements (o .events) → j < length es
     event-within j m = omega (arith, x .within j (elements-has (o .events) j .0 m), length-map (passageEvents p passage) stampOf, accepted-count p passage es B h)
 
@@ -127,33 +127,33 @@ module _ (p : Plan) (passage : List ℕ) (es : List EventEntry) (ok : PlanOk p) 
         (record { logger = omega (arith, w .1, ok .loggers .small _ (w .0)); tick = omega (arith, entry-ok j k .tick) })
 
     of-latest : (t : Timestamp) → t ∈ members (o .latest)
-        → (t ∈ stampsAt (stampsIn p passage) (o .events)) × ((u : Timestamp) → u ∈ stampsAt (stampsIn p passage) (o .events) → before (p .ratio) t u ≡ false)
-    of-latest = latest-of (p .ratio) (stampsIn p passage) (accepted-placeable p passage es ok B h) o x
+        → (t ∈ stampsAt (stampsIn p passage) (o .events)) × ((u : Timestamp) → u ∈ stampsAt (stampsIn p passage) (o .events) → before (planClocks p) t u ≡ false)
+    of-latest = latest-of (planClocks p) (stampsIn p passage) (accepted-placeable p passage es ok B h) o x
 
-    latest-written : (t : Timestamp) → t ∈ members (o .latest) → IsLatest (p .ratio) (stampsFrom es (elements (o .events))) (written (numbersByPlace (p .loggers)) t)
+    latest-written : (t : Timestamp) → t ∈ members (o .latest) → IsLatest (planClocks p) (stampsFrom es (elements (o .events))) (written (numbersByPlace (p .loggers)) t)
     latest-written t m =
         let (a, none) = of-latest t m in
         record {
           among = by-number t a;
           before-none = λ s i.
               let (u, k, e) = by-place s i in
-              ap (isBefore (p .ratio) (written (numbersByPlace (p .loggers)) t)) e
-              ∙ before-written (p .loggers) (ok .loggers) (p .ratio) t u (small t a) (small u k) ∙ none u k;
+              ap (isBefore (planClocks p) (written (numbersByPlace (p .loggers)) t)) e
+              ∙ before-written (p .loggers) (ok .loggers) (planClocks p) t u (small t a) (small u k) ∙ none u k;
         }
 
-    written-latest : (s : Stamp) → IsLatest (p .ratio) (stampsFrom es (elements (o .events))) s → s ∈ map (written (numbersByPlace (p .loggers))) (members (o .latest))
+    written-latest : (s : Stamp) → IsLatest (planClocks p) (stampsFrom es (elements (o .events))) s → s ∈ map (written (numbersByPlace (p .loggers))) (members (o .latest))
     written-latest s l =
         let (t, a, e) = by-place s (l .among) in
-        let none : (u : Timestamp) → u ∈ stampsAt (stampsIn p passage) (o .events) → before (p .ratio) t u ≡ false =
-        λ u k. sym (before-written (p .loggers) (ok .loggers) (p .ratio) t u (small t a) (small u k))
-        ∙ ap (λ r. isBefore (p .ratio) r (written (numbersByPlace (p .loggers)) u)) (sym e) ∙ l .before-none _ (by-number u k) in
+        let none : (u : Timestamp) → u ∈ stampsAt (stampsIn p passage) (o .events) → before (planClocks p) t u ≡ false =
+        λ u k. sym (before-written (p .loggers) (ok .loggers) (planClocks p) t u (small t a) (small u k))
+        ∙ ap (λ r. isBefore (planClocks p) r (written (numbersByPlace (p .loggers)) u)) (sym e) ∙ l .before-none _ (by-number u k) in
         Memᴰ·cast e (map-in (written (numbersByPlace (p .loggers))) (members (o .latest))
-        (latest-in (p .ratio) (stampsIn p passage) (accepted-placeable p passage es ok B h) o x t a none))
+        (latest-in (planClocks p) (stampsIn p passage) (accepted-placeable p passage es ok B h) o x t a none))
 
     place-within : (k : ℕ) → k < 8 → presentAt (o .latest) k ≡ true → k < length (p .loggers)
     place-within k l e = small (stampAt (o .latest) k) (of-latest (stampAt (o .latest) k) (stamp-in (o .latest) k l e) .0)
 
-    exact-written : (node : ℕ) → node < length (p .nodes) → ExactFinding (p .ratio) es (findingOf (numbersByPlace (p .loggers)) node (o .latest) (o .events))
+    exact-written : (node : ℕ) → node < length (p .nodes) → ExactFinding (planClocks p) es (findingOf (numbersByPlace (p .loggers)) node (o .latest) (o .events))
     unfolding findingOf
     exact-written node n = record {
       limits = finding-within (numbersByPlace (p .loggers)) node (o .latest) (o .events) (omega (arith, n, ok .nodes-most)) (λ t m. fits t (of-latest t m .0));
@@ -161,24 +161,24 @@ module _ (p : Plan) (passage : List ℕ) (es : List EventEntry) (ok : PlanOk p) 
       within = event-within;
       none-besides = λ s m.
           let (t, i, e) = map-of (written (numbersByPlace (p .loggers))) (members (o .latest)) m in
-          subst (IsLatest (p .ratio) (stampsFrom es (elements (o .events)))) (sym e) (latest-written t i);
+          subst (IsLatest (planClocks p) (stampsFrom es (elements (o .events)))) (sym e) (latest-written t i);
       every-one = written-latest;
       rising = loggers-rising (numbersByPlace (p .loggers)) node (o .latest) (o .events)
           (λ i j l a b k. numbers-rise (p .loggers) (ok .loggers) i j k (place-within j l b));
     }
 
-  pub shown-exact : (f : Finding) → Shown (Exact (p .ratio) (stampsIn p passage)) (numbersByPlace (p .loggers)) (length (p .nodes)) f → ExactFinding (p .ratio) es f
-  shown-exact f s = subst (ExactFinding (p .ratio) es) (sym (s .same)) (exact-written (s .made) (s .holds) (s .place) (s .node))
+  pub shown-exact : (f : Finding) → Shown (Exact (planClocks p) (stampsIn p passage)) (numbersByPlace (p .loggers)) (length (p .nodes)) f → ExactFinding (planClocks p) es f
+  shown-exact f s = subst (ExactFinding (planClocks p) es) (sym (s .same)) (exact-written (s .made) (s .holds) (s .place) (s .node))
 
 -- ---- two findings whose events have the same set of stamps
-module _ (ratio : ℕ) (l m : List Stamp) (same : SameMembers l m) where
-  latest-moves : (s : Stamp) → IsLatest ratio l s → IsLatest ratio m s
+module _ (clocks : Clocks) (l m : List Stamp) (same : SameMembers l m) where
+  latest-moves : (s : Stamp) → IsLatest clocks l s → IsLatest clocks m s
   latest-moves s i = record { among = same .0 s (i .among); before-none = λ t k. i .before-none t (same .1 t k) }
 
-pub stamps-same : (ratio : ℕ) (es es′ : List EventEntry) (f f′ : Finding) → ExactFinding ratio es f → ExactFinding ratio es′ f′
+pub stamps-same : (clocks : Clocks) (es es′ : List EventEntry) (f f′ : Finding) → ExactFinding clocks es f → ExactFinding clocks es′ f′
     → SameMembers (stampsFrom es (f .events)) (stampsFrom es′ (f′ .events)) → f .stamps ≡ f′ .stamps
-stamps-same ratio es es′ f f′ x y same =
+stamps-same clocks es es′ f f′ x y same =
     keys-same (λ (s : Stamp). s .logger) (f .stamps) (f′ .stamps) (x .rising) (y .rising) (
-      (λ s i. y .every-one s (latest-moves ratio _ _ same s (x .none-besides s i))),
-      (λ s i. x .every-one s (latest-moves ratio _ _ (same-sym same) s (y .none-besides s i))),
+      (λ s i. y .every-one s (latest-moves clocks _ _ same s (x .none-besides s i))),
+      (λ s i. x .every-one s (latest-moves clocks _ _ (same-sym same) s (y .none-besides s i))),
     )

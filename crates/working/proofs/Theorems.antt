@@ -15,6 +15,7 @@ use Rattle.sequences.specs.Range.{range}
 use Rattle.sequences.proofs.Range.{range-in}
 use Rattle.plans.specs.Layout.{Plan, planBytes}
 use Rattle.plans.specs.Limits.{PlanOk}
+use Rattle.plans.specs.Layout.{planClocks}
 use Rattle.plans.specs.Reader.{PlanAnswer, readPlan, accepted as acceptedPlan, refused as refusedPlan}
 use Rattle.plans.proofs.Theorems.{accepted-is-laid-out, laid-out-is-accepted as plan-accepted, one-answer as one-plan-answer}
 use Rattle.plans.proofs.First.{first-bytes as plan-first}
@@ -165,24 +166,24 @@ module _ (plan passage : List ℕ) (room : ℕ) (B : Bytes plan) (C : Bytes pass
     plan-ok : PlanOk p
     plan-ok = accepted-is-laid-out plan p B e .1
 
-    kept : Kept (Exact (p .ratio) (map stampOf (passageEvents p passage))) (numbersByPlace (p .loggers)) (length (p .nodes)) (length es)
+    kept : Kept (Exact (planClocks p) (map stampOf (passageEvents p passage))) (numbersByPlace (p .loggers)) (length (p .nodes)) (length es)
         (runOf room p (passageEvents p passage))
     kept =
         let whole : take (length es) (passageEvents p passage) ≡ passageEvents p passage =
         take-all (length es) (passageEvents p passage) (omega (arith, accepted-count p passage es C f)) in
         rw whole at (accepted-exact p passage es plan-ok C f room (length es) (omega arith))
 
-    run-written : WrittenExact (p .ratio) es (runOf room p (passageEvents p passage) .findings) (runOf room p (passageEvents p passage) .bytes)
+    run-written : WrittenExact (planClocks p) es (runOf room p (passageEvents p passage) .findings) (runOf room p (passageEvents p passage) .bytes)
     run-written =
         let w = kept .written in
         record { findings = w .findings; many = w .many; laid = w .laid; each = λ x m. shown-exact p passage es plan-ok C f x (w .each x m) }
 
     -- p and es are what the bytes are read as
-    as-read : (count : ℕ) (bytes : List ℕ) → WrittenExact (p .ratio) es count bytes → LatestExact plan passage count bytes
+    as-read : (count : ℕ) (bytes : List ℕ) → WrittenExact (planClocks p) es count bytes → LatestExact plan passage count bytes
     unfolding LatestExact
     as-read count bytes w =
-        subst (λ (a : PlanAnswer). WrittenExact (a .plan .ratio) (readPassage (a .plan) passage .events) count bytes) (sym e)
-        (subst (λ (b : PassageAnswer). WrittenExact (p .ratio) (b .events) count bytes) (sym f) w)
+        subst (λ (a : PlanAnswer). WrittenExact (planClocks (a .plan)) (readPassage (a .plan) passage .events) count bytes) (sym e)
+        (subst (λ (b : PassageAnswer). WrittenExact (planClocks p) (b .events) count bytes) (sym f) w)
 
   -- the bytes written are those of as many findings as the answer says, and the latest stamps of each are exact
   pub worked-exact : LatestExact plan passage (worked plan passage room .findings) (worked plan passage room .bytes)
@@ -204,7 +205,7 @@ module _ (plan passage : List ℕ) (room : ℕ) (B : Bytes plan) (C : Bytes pass
 
   -- whichever list of findings has those bytes, each of it is exact
   pub findings-exact : (fs : List Finding) → AllFit fs → worked plan passage room .bytes ≡ findingsBytes fs
-      → (f : Finding) → f ∈ fs → ExactFinding (readPlan plan .plan .ratio) (entriesOf plan passage) f
+      → (f : Finding) → f ∈ fs → ExactFinding (planClocks (readPlan plan .plan)) (entriesOf plan passage) f
   unfolding LatestExact
   findings-exact fs fit e f m =
       let w = worked-exact in
@@ -230,5 +231,5 @@ pub same-latest : (plan passage passage′ : List ℕ) (room room′ : ℕ) → 
     → (f f′ : Finding) → f ∈ fs → f′ ∈ fs′
     → SameMembers (stampsFrom (entriesOf plan passage) (f .events)) (stampsFrom (entriesOf plan passage′) (f′ .events)) → f .stamps ≡ f′ .stamps
 same-latest plan passage passage′ room room′ B C C′ fs fs′ a a′ e e′ f f′ m m′ same =
-    stamps-same (readPlan plan .plan .ratio) (entriesOf plan passage) (entriesOf plan passage′) f f′
+    stamps-same (planClocks (readPlan plan .plan)) (entriesOf plan passage) (entriesOf plan passage′) f f′
     (findings-exact plan passage room B C fs a e f m) (findings-exact plan passage′ room′ B C′ fs′ a′ e′ f′ m′) same

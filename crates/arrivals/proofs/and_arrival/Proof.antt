@@ -1,14 +1,22 @@
 -- It waits, or it is consumed.
-use mathlib.Core.Path.{_≡_}
 use Prim.Native.Nat.{min}
-use native.Mathlib.Omega.{arith}
-use borrow.Author.Needs.{needs}
+use Rattle.arrivals.proofs.Arrivals.{and-gone, and-waits}
+use Rattle.arrivals.specs.Views.{HoldsSides}
+use Rattle.occurrences.proofs.Rows.{holds-length}
 use denote.Ref.{now}
 use lib.ListN.{length}
-use Rattle.occurrences.specs.Packed.{held}
-use Rattle.arrivals.proofs.Arrivals.{and-waits, and-gone}
+use mathlib.Core.Path.{_∙_, _≡_, refl, subst}
+use native.Mathlib.Omega.{arith}
+use borrow.Author.Needs.{needs}
 use Rattle.arrivals.proofs.and_arrival.Statement.{statement}
 use Rattle.arrivals.proofs.and_arrival.Tie as tie
+use Rattle.arrivals.proofs.and_arrival.Reads as reads
+use Rattle.arrivals.proofs.and_arrival.Lts as lts
+use Rattle.arrivals.proofs.does_join.Reads as does-join-reads
+use Rattle.arrivals.proofs.meet.Reads as meet-reads
+use Rattle.arrivals.proofs.wait.Reads as wait-reads
+use Rattle.contexts.proofs.all_waiting.Reads as all-waiting-reads
+use Rattle.waiting_lists.proofs.count_in.Reads as count-in-reads
 
 count-in-requires : tie.Need-count-in-requires
 count-in-requires c κs = search needs
@@ -36,12 +44,18 @@ returns c =
     let meet = join .before .before .before .before in
     let marks = meet .before .before .before .before in
     let count = marks .before in
-    let start = count .before .before .before in
-    let ticks = now (start .args .ticks) in
-    let other = held ticks (now (start .args .other)) (start .args .there) in
-    let many : length other ≡ min (count .count-in .result) 16 = omega (arith, count .count-in .ensures .0 ticks, count .count-in .ensures .1) in
-    let w = waits .wait .ensures in
-    (and-waits _ _ _ _ _ _ _ _ _ _ (marks .all-waiting .ensures other many) (meet .meet .ensures .0) (join .does-join .ensures other many) _ (yes .if1 .taken) (w .0 ticks (meet .meet .last .1 .1 .1 .1 .0) _), rw (w .1, w .2) (meet .meet .ensures .1))
+    let start = count .before .before .before .before .before in
+    let other = now (start .args .other) in
+    let w = waits .wait .ensures in (
+      (λ t l k s x h g m p.
+          let len = count .count-in .ensures .0 ∙ holds-length t other (start .args .there) k g in
+          let many : length k ≡ min (count .count-in .result) 16 = omega (arith, len, count .count-in .ensures .1) in
+          let met = meet .meet .ensures .0 t k s x g m p in
+          let wt = w .0 _ _ t _ _ l _ x h (met .emit) p in
+          subst (HoldsSides t _ _ _ _ _) (and-waits _ _ _ l k s x _ _ _ (marks .all-waiting .ensures k many) refl (join .does-join .ensures k many) _ (yes .if1 .taken) refl)
+          (record { own = wt .list; other = met .list; emit = wt .emit })),
+      rw (w .1, w .2) (meet .meet .ensures .1),
+    )
 
 same-length-2 : tie.Need-same-length-2
 same-length-2 c = search needs
@@ -52,11 +66,16 @@ returns-2 c =
     let meet = join .before .before .before .before in
     let marks = meet .before .before .before .before in
     let count = marks .before in
-    let start = count .before .before .before in
-    let ticks = now (start .args .ticks) in
-    let other = held ticks (now (start .args .other)) (start .args .there) in
-    let many : length other ≡ min (count .count-in .result) 16 = omega (arith, count .count-in .ensures .0 ticks, count .count-in .ensures .1) in
-    (and-gone _ _ _ _ _ _ _ _ _ _ (marks .all-waiting .ensures other many) (meet .meet .ensures .0) (join .does-join .ensures other many) (c .if1 .left), meet .meet .ensures .1)
+    let start = count .before .before .before .before .before in
+    let other = now (start .args .other) in (
+      (λ t l k s x h g m p.
+          let len = count .count-in .ensures .0 ∙ holds-length t other (start .args .there) k g in
+          let many : length k ≡ min (count .count-in .result) 16 = omega (arith, len, count .count-in .ensures .1) in
+          let met = meet .meet .ensures .0 t k s x g m p in
+          subst (HoldsSides t _ _ _ _ _) (and-gone _ _ _ l k s x _ _ _ (marks .all-waiting .ensures k many) refl (join .does-join .ensures k many) (c .if1 .left))
+          (record { own = h; other = met .list; emit = met .emit })),
+      meet .meet .ensures .1,
+    )
 
 pub and-arrival-spec : {M : Type 1} → statement M
 and-arrival-spec =

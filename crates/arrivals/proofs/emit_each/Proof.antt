@@ -1,33 +1,45 @@
 -- What is left to make, from the state so far, is the whole; i is the first mark left.
-use mathlib.Core.List.{map}
-use mathlib.Core.Path.{_≡_, refl, sym, ap, _∙_}
-use Prim.Native.Nat.{min, _≤_, _<_}
-use native.Mathlib.Omega.{arith}
-use borrow.Author.Needs.{needs}
-use denote.Ref.{now}
-use lib.ListN.{length}
-use Rattle.sequences.specs.Loops.{fold}
-use Rattle.sequences.specs.Marks.{firstMark, marked}
-use Rattle.event_sets.proofs.Words.{rest-less}
-use Rattle.detections.specs.Writing.{Beyond}
+use Prim.Native.Nat.{_<_, _≤_}
+use Rattle.arrivals.proofs.Each.{each-end, each-turn}
+use Rattle.arrivals.proofs.Views.{Left}
 use Rattle.detections.proofs.Writing.{beyond-none, beyond-then}
-use Rattle.occurrences.specs.declared.Occurrence.{Occurrence}
+use Rattle.detections.specs.Writing.{Beyond}
+use Rattle.emissions.specs.Emissions.{Emits, Emitting, emitted, emittedAll}
+use Rattle.event_sets.proofs.Words.{rest-less}
+use Rattle.occurrences.proofs.Packed.{stands-within}
+use Rattle.occurrences.proofs.Rows.{holds-at, holds-length, holds-within}
 use Rattle.occurrences.specs.Combination.{combinedOf}
 use Rattle.occurrences.specs.Occurrences.{blank}
-use Rattle.occurrences.specs.Packed.{held, occurrenceOf}
-use Rattle.occurrences.proofs.Packed.{held-at, length-held}
-use Rattle.waiting_lists.specs.Marks.{marksOf}
+use Rattle.occurrences.specs.Packed.{Holds, Notes, Stands}
+use Rattle.occurrences.specs.declared.Occurrence.{Occurrence}
+use Rattle.sequences.specs.Loops.{fold}
+use Rattle.sequences.specs.Marks.{firstMark, marked}
 use Rattle.waiting_lists.proofs.Marks.{first-some, length-marks, marks-rest}
-use Rattle.emissions.specs.Emissions.{emitOf, emitted, emittedAll}
-use Rattle.arrivals.proofs.Each.{each-turn, each-end}
+use Rattle.waiting_lists.specs.Marks.{marksOf}
+use borrow.Author.Needs.{needs}
+use denote.Ref.{now}
+use lib.ListN.{getD, length, length-take, take}
+use mathlib.Core.List.{List, map}
+use mathlib.Core.Path.{_∙_, _≡_, refl, subst, sym}
+use native.Mathlib.Omega.{arith}
 use Rattle.arrivals.proofs.emit_each.Statement.{statement}
 use Rattle.arrivals.proofs.emit_each.Tie as tie
+use Rattle.arrivals.proofs.emit_each.Reads as reads
+use Rattle.arrivals.proofs.emit_each.Lts as lts
+use Rattle.emissions.proofs.emit_one.Reads as emit-one-reads
+use Rattle.occurrences.proofs.combined.Reads as combined-reads
+use Rattle.waiting_lists.proofs.count.Reads as count-reads
+use Rattle.waiting_lists.proofs.first_marked.Reads as first-marked-reads
 
 abbrev Inv-loop : tie.InvT-loop
-Inv-loop made₀ list waiting taken o place ratio ticks loggers out₀ n row f₀ rest₀ i₀ made out f rest i = (i ≡ firstMark (marksOf rest)) × (length out ≡ length out₀) × Beyond out₀ out (f₀ .at) (f .findings) (f .at) × (fold (emitted (length out₀) loggers place) (map (λ w. combinedOf ratio w (occurrenceOf ticks o)) (marked (held ticks list waiting) (marksOf rest))) (emitOf ticks f made out) ≡ emittedAll (length out₀) loggers place (emitOf ticks f₀ made₀ out₀) (map (λ w. combinedOf ratio w (occurrenceOf ticks o)) (marked (held ticks list waiting) (marksOf taken))))
+Inv-loop made₀ list waiting taken o place ticks globals loggers out₀ n row f₀ rest₀ i₀ made out f rest i =
+    (i ≡ firstMark (marksOf rest)) × (length out ≡ length out₀) × Beyond out₀ out (f₀ .at) (f .findings) (f .at)
+    × ((t : Notes ticks globals) (l : List Occurrence) (s : Emitting) (x : Occurrence) → Holds t list waiting l → Emits t f₀ made₀ out₀ s → Stands t o x
+    → Left t f made out (fold (emitted (length out₀) loggers place) (map (λ w. combinedOf (t .clocks) w x) (marked l (marksOf rest))))
+    (emittedAll (length out₀) loggers place s (map (λ w. combinedOf (t .clocks) w x) (marked l (marksOf taken)))))
 
 abbrev μ-loop : tie.MeasureT-loop
-μ-loop made₀ list waiting taken o place ratio ticks loggers out₀ n row f₀ rest₀ i₀ made out f rest i = rest
+μ-loop made₀ list waiting taken o place ticks globals loggers out₀ n row f₀ rest₀ i₀ made out f rest i = rest
 
 count-requires : tie.Need-count-requires Inv-loop μ-loop
 count-requires c κs = search needs
@@ -37,7 +49,10 @@ first-marked-requires c κs = search needs
 
 loop-holds : tie.Need-loop-holds Inv-loop μ-loop
 unfolding emittedAll
-loop-holds c = let start = c .before .before .before .before in (c .first-marked .ensures, refl, beyond-none (start .pre .1) (start .pre .2), refl)
+loop-holds c =
+    let start = c .before .before .before .before .before .before in
+    let (one, fits) = start .pre in
+    (c .first-marked .ensures, refl, beyond-none (fits .0) (fits .1), λ t l s x h m p. record { so-far = s; emits = m; same = refl })
 
 mul-combined : tie.Need-mul-combined Inv-loop μ-loop
 mul-combined c = omega (arith, c .loop-test .taken, c .before .before .before .before .count .ensures .1)
@@ -46,10 +61,30 @@ shared-slice-element-combined : tie.Need-shared-slice-element-combined Inv-loop 
 shared-slice-element-combined c = omega (arith, c .loop-test .taken, c .before .before .before .before .count .ensures .1)
 
 combined-requires : tie.Need-combined-requires Inv-loop μ-loop
-combined-requires c κs = search needs
+combined-requires c κs =
+    let in-loop = c .before in
+    let count = in-loop .before .before .before .before in
+    let start = count .before .before .before .before in
+    let list = now (start .args .list) in
+    let whole : length list ≡ 16 = search needs in
+    let (one, fits) = start .pre in
+    let (t, l, s, x, h, m, p) = one in
+    (holds-within t list (start .args .waiting) l h _ (omega (arith, whole, length-take (start .args .waiting) list, count .count .ensures .0, in-loop .loop-test .taken)), stands-within t _ x p)
 
 emit-one-requires : tie.Need-emit-one-requires Inv-loop μ-loop
-emit-one-requires c κs = let a = c .before .before .before .before .before .before in (a .before .before .before .before .before .pre .0, a .loop .inv .2 .within, a .loop .inv .2 .few)
+emit-one-requires c κs =
+    let made = c .before .before .before in
+    let in-loop = made .before .before in
+    let a = in-loop .before in
+    let count = a .before .before .before in
+    let start = count .before .before .before .before in
+    let list = now (start .args .list) in
+    let whole : length list ≡ 16 = search needs in
+    let (one, fits) = start .pre in
+    let (t, l, s, x, h, m, p) = one in
+    let n : a .loop .i < length l = omega (arith, whole, holds-length t list (start .args .waiting) l h, length-take (start .args .waiting) list, count .count .ensures .0, in-loop .loop-test .taken) in
+    let st = made .combined .ensures t (getD l (a .loop .i) blank) x (holds-at t list (start .args .waiting) l h (a .loop .i) n) p in
+    ((λ k b. stands-within t _ _ st k b .0), t .no-tick, a .loop .inv .2 .within, a .loop .inv .2 .few)
 
 sub-rest : tie.Need-sub-rest Inv-loop μ-loop
 sub-rest c =
@@ -70,27 +105,30 @@ loop-again : tie.Need-loop-again Inv-loop μ-loop
 loop-again c =
     let call = c .before .before .before in
     let made = call .before .before .before .before in
-    let t = made .before .before in
-    let a = t .before in
+    let in-loop = made .before .before in
+    let a = in-loop .before in
     let count = a .before .before .before in
-    let start = count .before .before in
+    let start = count .before .before .before .before in
     let list = now (start .args .list) in
-    let ticks = now (start .args .ticks) in
+    let whole : length list ≡ 16 = search needs in
     let marks = marksOf (a .loop .rest) in
     let first : a .loop .i ≡ firstMark marks = a .loop .inv .0 in
-    let whole : length list ≡ 16 = search needs in
-    let n : count .count .result ≡ min (start .args .waiting) 16 = count .count .ensures .0 in
-    let in-n : firstMark marks < count .count .result = omega (arith, first, t .loop-test .taken) in
-    let in-list : firstMark marks < length (held ticks list (start .args .waiting)) = omega (arith, n, in-n, whole, length-held ticks list (start .args .waiting)) in
-    let in-marks : firstMark marks < length marks = omega (arith, length-marks (a .loop .rest), n, in-n) in
-    let g : Occurrence → Occurrence = λ w. combinedOf (start .args .ratio) w (occurrenceOf ticks (now (start .args .o))) in
-    let at-first = held-at ticks list (start .args .waiting) (firstMark marks) (omega (arith, n, in-n)) (omega (arith, n, in-n, whole)) in
-    let combined = made .combined .ensures in
-    let same = rw (a .loop .inv .1) at (call .emit-one .ensures .0) in (
+    let below : firstMark marks < length (take (start .args .waiting) list) = omega (arith, whole, length-take (start .args .waiting) list, count .count .ensures .0, first, in-loop .loop-test .taken) in
+    let in-marks : firstMark marks < length marks = omega (arith, length-marks (a .loop .rest), count .count .ensures .1, first, in-loop .loop-test .taken) in (
       c .first-marked2 .ensures,
       search needs,
       beyond-then (a .loop .inv .2) (call .emit-one .ensures .1),
-      each-turn _ g (held ticks list (start .args .waiting)) marks _ blank in-list in-marks (marks-rest (a .loop .rest)) _ _ (same ∙ ap (emitted _ _ _ _) (rw first at combined ∙ ap g (sym at-first))) ∙ a .loop .inv .3,
+      λ t l s x h m p.
+          let r = a .loop .inv .3 t l s x h m p in
+          let in-l : firstMark marks < length l = omega (arith, below, holds-length t list (start .args .waiting) l h) in
+          let o = rw first at (made .combined .ensures t (getD l (firstMark marks) blank) x) in
+          let st = o (holds-at t list (start .args .waiting) l h (firstMark marks) in-l) p in
+          let em = rw (a .loop .inv .1) at (call .emit-one .ensures .0 (now (start .args .globals)) t (r .so-far) (combinedOf (t .clocks) (getD l (firstMark marks) blank) x) (r .emits) st) in
+          record {
+            so-far = _;
+            emits = em;
+            same = each-turn _ (λ w. combinedOf (t .clocks) w x) l marks _ blank in-l in-marks (marks-rest (a .loop .rest)) (r .so-far) _ refl ∙ r .same;
+          },
     )
 
 same-length : tie.Need-same-length Inv-loop μ-loop
@@ -100,12 +138,16 @@ returns : tie.Need-returns Inv-loop μ-loop
 returns c =
     let a = c .before in
     let count = a .before .before .before in
-    let start = count .before .before in
+    let start = count .before .before .before .before in
     let list = now (start .args .list) in
-    let ticks = now (start .args .ticks) in
-    let whole : length list ≡ 16 = search needs in
-    let past : length (held ticks list (start .args .waiting)) ≤ firstMark (marksOf (a .loop .rest)) = omega (arith, a .loop .inv .0, count .count .ensures .0, c .loop-test .left, whole, length-held ticks list (start .args .waiting)) in
-    (sym (each-end _ (λ w. combinedOf (start .args .ratio) w (occurrenceOf ticks (now (start .args .o)))) (held ticks list (start .args .waiting)) (marksOf (a .loop .rest)) _ past) ∙ a .loop .inv .3, a .loop .inv .2)
+    let whole : length list ≡ 16 = search needs in (
+      (λ t l s x h m p.
+          let r = a .loop .inv .3 t l s x h m p in
+          let past : length l ≤ firstMark (marksOf (a .loop .rest)) =
+          omega (arith, whole, holds-length t list (start .args .waiting) l h, length-take (start .args .waiting) list, count .count .ensures .0, a .loop .inv .0, c .loop-test .left) in
+          subst (Emits t _ _ _) (sym (each-end _ (λ w. combinedOf (t .clocks) w x) l (marksOf (a .loop .rest)) (r .so-far) past) ∙ r .same) (r .emits)),
+      a .loop .inv .2,
+    )
 
 pub emit-each-spec : {M : Type 1} → statement M
 emit-each-spec =

@@ -1,16 +1,26 @@
--- None is taken, or one is made.
-use mathlib.Core.List.{[], _∷_}
-use mathlib.Core.Path.{ap, _∙_}
-use borrow.Author.Needs.{needs}
-use denote.Ref.{now}
-use Rattle.detections.proofs.Writing.{beyond-none}
-use Rattle.occurrences.specs.Packed.{held, occurrenceOf}
+-- None, or one for all taken.
 use Rattle.arrivals.proofs.Each.{emits-none, emits-one}
-use Rattle.waiting_lists.specs.Marks.{marksOf}
-use Rattle.waiting_lists.proofs.Marks.{length-marks}
 use Rattle.contexts.proofs.Findings.{together-none, together-some}
+use Rattle.detections.proofs.Writing.{beyond-none}
+use Rattle.emissions.specs.Emissions.{Emits}
+use Rattle.occurrences.proofs.Packed.{stands-within}
+use Rattle.occurrences.proofs.Rows.{holds-length}
+use Rattle.occurrences.specs.Combination.{combinedOf}
+use Rattle.sequences.specs.Loops.{fold}
+use Rattle.sequences.specs.Marks.{marked}
+use Rattle.waiting_lists.proofs.Marks.{length-marks}
+use Rattle.waiting_lists.specs.Marks.{marksOf}
+use denote.Ref.{now}
+use mathlib.Core.Path.{_∙_, refl, subst}
+use borrow.Author.Needs.{needs}
 use Rattle.arrivals.proofs.emit_together.Statement.{statement}
 use Rattle.arrivals.proofs.emit_together.Tie as tie
+use Rattle.arrivals.proofs.emit_together.Reads as reads
+use Rattle.arrivals.proofs.emit_together.Lts as lts
+use Rattle.contexts.proofs.all_combined.Reads as all-combined-reads
+use Rattle.emissions.proofs.emit_one.Reads as emit-one-reads
+use Rattle.waiting_lists.proofs.count_in.Reads as count-in-reads
+use Rattle.waiting_lists.proofs.first_marked.Reads as first-marked-reads
 
 first-marked-requires : tie.Need-first-marked-requires
 first-marked-requires c κs = search needs
@@ -22,18 +32,24 @@ returns : tie.Need-returns
 returns c =
     let count = c .before in
     let first = count .before in
-    let start = first .before .before in
+    let start = first .before .before .before .before in
     let list = now (start .args .list) in
-    let ticks = now (start .args .ticks) in
-    let w = start .args .waiting in
-    let none = together-none (start .args .ratio) (occurrenceOf ticks (now (start .args .o))) (held ticks list w) (marksOf (start .args .taken)) _ _ (first .first-marked .ensures) (count .count-in .ensures .0 ticks) (c .if1 .taken) in
-    (emits-none _ _ _ _ _ none, beyond-none (start .pre .1) (start .pre .2))
+    let (one, fits) = start .pre in (
+      (λ t l s x h m p.
+          let none = together-none (t .clocks) x l (marksOf (start .args .taken)) _ _ (first .first-marked .ensures) (count .count-in .ensures .0 ∙ holds-length t list (start .args .waiting) l h) (c .if1 .taken) in
+          subst (Emits t _ _ _) (emits-none _ _ _ s _ none) m),
+      beyond-none (fits .0) (fits .1),
+    )
 
 all-combined-requires : tie.Need-all-combined-requires
 all-combined-requires c κs = search needs
 
 emit-one-requires : tie.Need-emit-one-requires
-emit-one-requires c κs = c .before .before .before .before .before .before .before .before .pre
+emit-one-requires c κs =
+    let all = c .before .before .before in
+    let (one, fits) = all .before .before .before .before .before .before .before .pre in
+    let (t, l, s, x, h, m, p) = one in
+    ((λ k b. stands-within t _ _ (all .all-combined .ensures t l x h p) k b .0), t .no-tick, fits .0, fits .1)
 
 same-length : tie.Need-same-length
 same-length c = search needs
@@ -45,12 +61,15 @@ returns-2 c =
     let some = all .before in
     let count = some .before in
     let first = count .before in
-    let start = first .before .before in
-    let list = now (start .args .list) in
-    let ticks = now (start .args .ticks) in
-    let w = start .args .waiting in
-    let one = together-some (start .args .ratio) (occurrenceOf ticks (now (start .args .o))) (held ticks list w) (marksOf (start .args .taken)) _ _ (first .first-marked .ensures) (count .count-in .ensures .0 ticks) (count .count-in .ensures .1) (length-marks (start .args .taken)) (some .if1 .left) in
-    (emits-one _ _ _ _ _ _ _ (call .emit-one .ensures .0) (ap (λ x. x ∷ []) (all .all-combined .ensures) ∙ one), call .emit-one .ensures .1)
+    let start = first .before .before .before .before in
+    let list = now (start .args .list) in (
+      (λ t l s x h m p.
+          let one = together-some (t .clocks) x l (marksOf (start .args .taken)) _ _ (first .first-marked .ensures) (count .count-in .ensures .0 ∙ holds-length t list (start .args .waiting) l h)
+          (count .count-in .ensures .1) (length-marks (start .args .taken)) (some .if1 .left) in
+          subst (Emits t _ _ _) (emits-one _ _ _ s _ _ _ refl one)
+          (call .emit-one .ensures .0 (now (start .args .globals)) t s (fold (combinedOf (t .clocks)) (marked l (marksOf (start .args .taken))) x) m (all .all-combined .ensures t l x h p))),
+      call .emit-one .ensures .1,
+    )
 
 pub emit-together-spec : {M : Type 1} → statement M
 emit-together-spec =

@@ -1,14 +1,19 @@
--- Only the limit's number differs.
-use mathlib.Core.Path.{refl}
+-- The limit alone is another.
+use Rattle.detections.proofs.Examples.{bytes}
+use mathlib.Core.Path.{refl, sym}
 use borrow.Author.Needs.{needs}
 use Rattle.arrivals.proofs.full.Statement.{statement}
 use Rattle.arrivals.proofs.full.Tie as tie
+use Rattle.arrivals.proofs.full.Reads as reads
+use Rattle.arrivals.proofs.full.Lts as lts
+use Rattle.emissions.proofs.number_of.Reads as number-of-reads
 
 number-of-requires : tie.Need-number-of-requires
 number-of-requires c κs = search needs
 
 returns : tie.Need-returns
-returns c = (λ ticks made out. rw (c .number-of .ensures), refl, refl)
+returns c =
+    ((λ ticks globals t made out s m. record { made = m .made; findings = m .findings; bytes = m .bytes; limit = sym (c .number-of .ensures) }), refl, refl)
 
 pub full-spec : {M : Type 1} → statement M
 full-spec = tie.close (tie.spec number-of-requires returns)

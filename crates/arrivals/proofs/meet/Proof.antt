@@ -1,19 +1,29 @@
 -- No candidate, a limit, or on to the removal.
-use mathlib.Core.Path.{sym, _∙_}
 use Prim.Native.Nat.{_≤_}
+use Rattle.arrivals.proofs.Arrivals.{met-goes, met-none, met-stopped}
+use Rattle.arrivals.specs.Views.{HoldsMet}
+use Rattle.detections.proofs.Examples.{bytes}
+use Rattle.detections.proofs.Writing.{beyond-none}
+use Rattle.emissions.specs.Emissions.{reached}
+use Rattle.occurrences.proofs.Rows.{holds-length}
+use Rattle.sequences.proofs.Marks.{marked-none}
+use Rattle.sequences.specs.Marks.{firstMark}
+use Rattle.waiting_lists.proofs.Holding.{holds-unmarked}
+use Rattle.waiting_lists.specs.Marks.{marksOf}
+use denote.Ref.{now}
+use lib.ListN.{length, length-take}
+use mathlib.Core.Path.{_∙_, ap, refl, subst, sym}
 use native.Mathlib.Omega.{arith}
 use borrow.Author.Needs.{needs}
-use denote.Ref.{now}
-use lib.ListN.{length}
-use Rattle.sequences.specs.Marks.{firstMark}
-use Rattle.sequences.proofs.Marks.{marked-none}
-use Rattle.detections.proofs.Writing.{beyond-none}
-use Rattle.occurrences.specs.Packed.{held}
-use Rattle.occurrences.proofs.Packed.{length-held}
-use Rattle.waiting_lists.specs.Marks.{marksOf}
-use Rattle.arrivals.proofs.Arrivals.{met-none, met-stopped, met-goes}
 use Rattle.arrivals.proofs.meet.Statement.{statement}
 use Rattle.arrivals.proofs.meet.Tie as tie
+use Rattle.arrivals.proofs.meet.Reads as reads
+use Rattle.arrivals.proofs.meet.Lts as lts
+use Rattle.arrivals.proofs.emit_made.Reads as emit-made-reads
+use Rattle.contexts.proofs.choose.Reads as choose-reads
+use Rattle.emissions.proofs.is_reached.Reads as is-reached-reads
+use Rattle.waiting_lists.proofs.first_marked.Reads as first-marked-reads
+use Rattle.waiting_lists.proofs.remove_from.Reads as remove-from-reads
 
 first-marked-requires : tie.Need-first-marked-requires
 first-marked-requires c κs = search needs
@@ -21,11 +31,15 @@ first-marked-requires c κs = search needs
 returns : tie.Need-returns
 returns c =
     let first = c .before .before .before in
-    let start = first .before .before in
+    let start = first .before .before .before .before in
     let list = now (start .args .list) in
-    let ticks = now (start .args .ticks) in
-    let few : length (held ticks list (start .args .waiting)) ≤ firstMark (marksOf (start .args .candidates)) = omega (arith, length-held ticks list (start .args .waiting), first .first-marked .ensures, c .if1 .taken) in
-    (met-none _ _ _ _ _ _ _ (marked-none _ _ few), beyond-none (start .pre .1) (start .pre .2))
+    let (one, fits) = start .pre in (
+      (λ t l s x h m p.
+          let few : length l ≤ firstMark (marksOf (start .args .candidates)) =
+          omega (arith, holds-length t list (start .args .waiting) l h, length-take (start .args .waiting) list, first .first-marked .ensures, c .if1 .taken) in
+          subst (HoldsMet t _ _ _ _) (met-none _ _ _ l _ s x (marked-none l _ few)) (record { list = h; emit = record { made = m .made; findings = m .findings; bytes = m .bytes; limit = m .limit } })),
+      beyond-none (fits .0) (fits .1),
+    )
 
 choose-requires : tie.Need-choose-requires
 choose-requires c κs = search needs
@@ -43,8 +57,13 @@ returns-2 : tie.Need-returns-2
 returns-2 c =
     let told = c .before in
     let call = told .before .before .before in
-    let choice = call .before .before .before .before in
-    (met-stopped _ _ _ _ _ _ _ _ _ (choice .choose .ensures .0) (call .emit-made .ensures .0) (sym (told .is-reached .ensures) ∙ c .if2 .taken), call .emit-made .ensures .1)
+    let choice = call .before .before .before .before in (
+      (λ t l s x h m p.
+          let f = call .emit-made .ensures .0 t l s x h m p in
+          let ch = choice .choose .ensures t l h in
+          subst (HoldsMet t _ _ _ _) (met-stopped _ _ _ l _ _ s _ x (ch .0) refl (ap (λ n. reached n) (f .limit) ∙ sym (told .is-reached .ensures) ∙ c .if2 .taken)) (record { list = h; emit = f })),
+      call .emit-made .ensures .1,
+    )
 
 remove-from-requires : tie.Need-remove-from-requires
 remove-from-requires c κs = search needs
@@ -58,7 +77,14 @@ returns-3 c =
     let told = go .before in
     let call = told .before .before .before in
     let choice = call .before .before .before .before in
-    (met-goes _ _ _ _ _ _ _ _ _ (choice .choose .ensures .0) (call .emit-made .ensures .0) _ _ (sym (told .is-reached .ensures) ∙ go .if2 .left) (choice .choose .ensures .1) (c .remove-from .ensures _), call .emit-made .ensures .1)
+    let start = choice .before .before .before .before .before .before .before .before .before in (
+      (λ t l s x h m p.
+          let f = call .emit-made .ensures .0 t l s x h m p in
+          let ch = choice .choose .ensures t l h in
+          subst (HoldsMet t _ _ _ _) (met-goes _ _ _ l _ _ s _ x (ch .0) refl _ _ (ap (λ n. reached n) (f .limit) ∙ sym (told .is-reached .ensures) ∙ go .if2 .left) (ch .1) refl)
+          (record { list = holds-unmarked t (now (start .args .list)) (c .remove-from .last .0) (start .args .waiting) (c .remove-from .result) l _ (c .remove-from .ensures) h; emit = f })),
+      call .emit-made .ensures .1,
+    )
 
 pub meet-spec : {M : Type 1} → statement M
 meet-spec =

@@ -1,25 +1,33 @@
--- One of three ways.
-use mathlib.Core.Bool.{true, false}
-use mathlib.Core.List.{List}
-use mathlib.Core.Path.{_≡_, refl, sym, _∙_}
-use Prim.Native.Nat.{ℕ}
-use native.Mathlib.Omega.{arith}
-use denote.Ref.{now}
-use lib.ListN.{length}
-use Rattle.occurrences.specs.Packed.{held, occurrenceOf}
-use Rattle.occurrences.proofs.Packed.{length-held}
-use Rattle.waiting_lists.specs.Waiting.{isFull}
+-- Stopped, full, or one more.
+use Prim.Native.Nat.{_<_, _≤_}
+use Rattle.arrivals.proofs.Arrivals.{wait-full, wait-goes, wait-stopped}
+use Rattle.arrivals.specs.Views.{HoldsMet}
+use Rattle.emissions.specs.Emissions.{ended, numberOf, reached}
+use Rattle.emissions.specs.declared.Limit.the-variants.{ListFull}
+use Rattle.occurrences.proofs.Rows.{holds-length}
 use Rattle.waiting_lists.proofs.Appends.{appended-full, appended-room}
-use Rattle.arrivals.proofs.Arrivals.{wait-stopped, wait-full, wait-goes}
+use Rattle.waiting_lists.proofs.Holding.{holds-appended}
+use Rattle.waiting_lists.specs.Waiting.{appendedTo}
+use denote.Ref.{now}
+use lib.ListN.{length, length-take}
+use mathlib.Core.Path.{_∙_, _≡_, ap, refl, subst, sym}
+use native.Mathlib.Omega.{arith}
 use borrow.Author.Needs.{needs}
 use Rattle.arrivals.proofs.wait.Statement.{statement}
 use Rattle.arrivals.proofs.wait.Tie as tie
+use Rattle.arrivals.proofs.wait.Reads as reads
+use Rattle.arrivals.proofs.wait.Lts as lts
+use Rattle.arrivals.proofs.full.Reads as full-reads
+use Rattle.emissions.proofs.is_reached.Reads as is-reached-reads
+use Rattle.waiting_lists.proofs.append_to.Reads as append-to-reads
 
 is-reached-requires : tie.Need-is-reached-requires
 is-reached-requires c κs = search needs
 
 returns : tie.Need-returns
-returns c = (λ ticks made out. wait-stopped _ _ _ (sym (c .before .is-reached .ensures) ∙ c .if1 .taken), refl, refl)
+returns c =
+    let told = sym (c .before .is-reached .ensures) ∙ c .if1 .taken in
+    ((λ ticks globals t made out l s x h m p. subst (HoldsMet t _ _ made out) (wait-stopped l s x (ap (λ n. reached n) (m .limit) ∙ told)) (record { list = h; emit = m })), refl, refl)
 
 full-requires : tie.Need-full-requires
 full-requires c κs = search needs
@@ -31,8 +39,14 @@ returns-2 c =
     let start = go .before .before in
     let list = now (start .args .list) in
     let whole : length list ≡ 16 = search needs in
-    let full : (ticks : List ℕ) → isFull (held ticks list (start .args .waiting)) ≡ true = λ ticks. appended-full (held ticks list (start .args .waiting)) (occurrenceOf ticks (now (start .args .o))) (omega (arith, whole, length-held ticks list (start .args .waiting), many .if2 .taken)) .0 in
-    (λ ticks made out. wait-full _ _ _ _ (sym (go .before .is-reached .ensures) ∙ go .if1 .left) (full ticks) (c .full .ensures .0 ticks made out), c .full .ensures .1, c .full .ensures .2)
+    let told = sym (go .before .is-reached .ensures) ∙ go .if1 .left in (
+      (λ ticks globals t made out l s x h m p.
+          let k : 16 ≤ length l = omega (arith, whole, holds-length t list (start .args .waiting) l h, length-take (start .args .waiting) list, many .if2 .taken) in
+          subst (HoldsMet t _ _ made out) (wait-full l s x (ended s (numberOf ListFull)) (ap (λ n. reached n) (m .limit) ∙ told) (appended-full l x k .0) refl)
+          (record { list = h; emit = c .full .ensures .0 ticks globals t made out s m })),
+      c .full .ensures .1,
+      c .full .ensures .2,
+    )
 
 append-to-requires : tie.Need-append-to-requires
 append-to-requires c κs = search needs
@@ -44,8 +58,14 @@ returns-3 c =
     let start = go .before .before in
     let list = now (start .args .list) in
     let whole : length list ≡ 16 = search needs in
-    let room : (ticks : List ℕ) → isFull (held ticks list (start .args .waiting)) ≡ false = λ ticks. appended-room (held ticks list (start .args .waiting)) (occurrenceOf ticks (now (start .args .o))) (omega (arith, whole, length-held ticks list (start .args .waiting), few .if2 .left)) .0 in
-    (λ ticks made out. wait-goes _ _ _ _ (sym (go .before .is-reached .ensures) ∙ go .if1 .left) (room ticks) (c .append-to .ensures ticks), refl, refl)
+    let told = sym (go .before .is-reached .ensures) ∙ go .if1 .left in (
+      (λ ticks globals t made out l s x h m p.
+          let k : length l < 16 = omega (arith, whole, holds-length t list (start .args .waiting) l h, length-take (start .args .waiting) list, few .if2 .left) in
+          subst (HoldsMet t _ _ made out) (wait-goes l s x (appendedTo l x) (ap (λ n. reached n) (m .limit) ∙ told) (appended-room l x k .0) refl)
+          (record { list = holds-appended t list (c .append-to .last .0) (start .args .waiting) (c .append-to .result) l _ x (c .append-to .ensures) h p; emit = m })),
+      refl,
+      refl,
+    )
 
 pub wait-spec : {M : Type 1} → statement M
 wait-spec =

@@ -1,6 +1,6 @@
 -- By the first list, then the length of the second.
 use Rattle.comparisons.specs.Steps.{afterFirst}
-use mathlib.Core.Path.{sym, _∙_, ap}
+use mathlib.Core.Path.{sym, _∙_}
 use borrow.Author.Needs.{needs}
 use Rattle.comparisons.proofs.after_first.Statement.{statement}
 use Rattle.comparisons.proofs.after_first.Tie as tie

@@ -50,12 +50,14 @@ use denote.Triple.Spec.{Meets, tripleOf}
 use denote.Triple.Table.{entered, cited}
 use denote.Triple.Walked.{says, needs, Stays, stay-ref, stay-none-ref, stay-none-slice, stay-dropped, walkOf, goes-ref, goes-none-ref, goes-none-slice, goes-dropped, Walks, ends-at, walked, walk-meets}
 use denote.Exit.{yes}
-use Rattle.open_calls.specs.Steps.{joinVerdict, noMarks}
-use Rattle.comparisons.specs.Steps.{gatheringOf, afterFirst, compareDone, compareRun, compareStart, foldGather}
+use Rattle.open_calls.specs.Steps.{joinVerdict}
+use Rattle.comparisons.specs.Notes.{gatheringOf, noNotes}
+use Rattle.comparisons.specs.Steps.{afterFirst, compareDone, compareRun, compareStart, foldGather}
 use Rattle.comparisons.specs.Answers.{compareAnswer}
 use Rattle.sequences.specs.Choice.{pick as choose}
 use Rattle.comparisons.proofs.Comparisons.{compare-is}
 use Rattle.timestamps.specs.declared.Timestamp.{Timestamp}
+use Rattle.timestamps.specs.Order.{clocksOf}
 use Rattle.timestamps.proofs.Timestamp as RTimestamp
 use Rattle.timestamps.proofs.Timestamp.Laws as LTimestamp
 use Rattle.comparisons.specs.declared.CompareStart.{CompareStart}
@@ -167,8 +169,8 @@ module _ {M : Type 1} (𝓤 : URA M) (H : Heap 𝓤) (A : Atoms 𝓤) (W : Given
   goes-to-2 : (r-start : CompareStart) → Is RCompareStart.the-row r-start ((LL.val RCompareStart.the-type LCompareStart.the-laws r-start) ∷ []) → ent 𝓤 (⋆ 𝓤 H A (‵ (flft κp2 qp2) ∷ ‵ ((ShrSlice (named 0) κp2 RTimestamp.the-row) .own p2 ((sliceVal (p2 .ptr) (length (p2 .now))) ∷ [])) ∷ [])) (Of-c2 𝓤 H A at-mem run .pre (to-2 r-start))
   goes-to-2 r-start i-start = qed W (‵ (flft κp2 qp2) ∷ ‵ ((ShrSlice (named 0) κp2 RTimestamp.the-row) .own p2 ((sliceVal (p2 .ptr) (length (p2 .now))) ∷ [])) ∷ []) ∵ nothing ! $ move ! (1 ∷ 0 ∷ []) $ join ! $ nothing ! $ owned ! u64 (Is u64) (uint-makes 𝓤 H A W w64) p1 ((vint w64 p1) ∷ []) gp1 $ fjoin ! $ move ! (2 ∷ 0 ∷ []) $ fjoin ! $ owned ! RSpan.the-row (Is RSpan.the-row) (LL.makes RSpan.the-type LSpan.the-plain 𝓤 H A) (r-start .span) ((LL.val RSpan.the-type LSpan.the-laws (r-start .span)) ∷ []) (LL.owed RCompareStart.the-type LCompareStart.the-laws r-start _ i-start .1 .1 .0) $ fjoin ! $ move ! (1 ∷ 0 ∷ []) $ join ! $ frame ! $ done !
 
-  said-2 : (r-start : CompareStart) (r : Gathering) → ent 𝓤 (ensured 𝓤 H A c2.ended (c2.clauses 𝓤 H A at-mem run) (κp2, tt) ((r-start .span), (p2, (p1, tt))) tt r) (fact 𝓤 (r ≡ foldGather p1 0 (gatheringOf (r-start .span) noMarks) (p2 .now)))
-  said-2 r-start r = exE 𝓤 _ (λ ws. snd∗ 𝓤 (sem 𝓤 H A (lasts c2.ended (κp2, tt) ((r-start .span), (p2, (p1, tt))) ws)) (fact 𝓤 (r ≡ foldGather p1 0 (gatheringOf (r-start .span) noMarks) (p2 .now))))
+  said-2 : (r-start : CompareStart) (r : Gathering) → ent 𝓤 (ensured 𝓤 H A c2.ended (c2.clauses 𝓤 H A at-mem run) (κp2, tt) ((r-start .span), (p2, (p1, tt))) tt r) (fact 𝓤 (r ≡ foldGather (clocksOf p1) 0 (gatheringOf (r-start .span) noNotes) (p2 .now)))
+  said-2 r-start r = exE 𝓤 _ (λ ws. snd∗ 𝓤 (sem 𝓤 H A (lasts c2.ended (κp2, tt) ((r-start .span), (p2, (p1, tt))) ws)) (fact 𝓤 (r ≡ foldGather (clocksOf p1) 0 (gatheringOf (r-start .span) noNotes) (p2 .now))))
 
   abbrev to-3 : (r-a : Gathering) → Of-c3 𝓤 H A at-mem run .Ghost
   to-3 r-a = ((tt, tt, tt, (r-a, ((length (p2 .now)), ((length (p3 .now)), tt))), ((LL.val RGathering.the-type LGathering.the-laws r-a) ∷ [], ((vint w64 (length (p2 .now))) ∷ [], ((vint w64 (length (p3 .now))) ∷ [], tt)))), tt)
@@ -185,8 +187,8 @@ module _ {M : Type 1} (𝓤 : URA M) (H : Heap 𝓤) (A : Atoms 𝓤) (W : Given
   goes-to-4 : (r-middle : CompareStart) → Is RCompareStart.the-row r-middle ((LL.val RCompareStart.the-type LCompareStart.the-laws r-middle) ∷ []) → ent 𝓤 (⋆ 𝓤 H A (‵ (flft κp3 qp3) ∷ ‵ ((ShrSlice (named 1) κp3 RTimestamp.the-row) .own p3 ((sliceVal (p3 .ptr) (length (p3 .now))) ∷ [])) ∷ [])) (Of-c4 𝓤 H A at-mem run .pre (to-4 r-middle))
   goes-to-4 r-middle i-middle = qed W (‵ (flft κp3 qp3) ∷ ‵ ((ShrSlice (named 1) κp3 RTimestamp.the-row) .own p3 ((sliceVal (p3 .ptr) (length (p3 .now))) ∷ [])) ∷ []) ∵ nothing ! $ move ! (1 ∷ 0 ∷ []) $ join ! $ nothing ! $ owned ! u64 (Is u64) (uint-makes 𝓤 H A W w64) p1 ((vint w64 p1) ∷ []) gp1 $ fjoin ! $ move ! (2 ∷ 0 ∷ []) $ fjoin ! $ owned ! RSpan.the-row (Is RSpan.the-row) (LL.makes RSpan.the-type LSpan.the-plain 𝓤 H A) (r-middle .span) ((LL.val RSpan.the-type LSpan.the-laws (r-middle .span)) ∷ []) (LL.owed RCompareStart.the-type LCompareStart.the-laws r-middle _ i-middle .1 .1 .0) $ fjoin ! $ move ! (1 ∷ 0 ∷ []) $ join ! $ frame ! $ done !
 
-  said-4 : (r-middle : CompareStart) (r : Gathering) → ent 𝓤 (ensured 𝓤 H A c4.ended (c4.clauses 𝓤 H A at-mem run) (κp3, tt) ((r-middle .span), (p3, (p1, tt))) tt r) (fact 𝓤 (r ≡ foldGather p1 0 (gatheringOf (r-middle .span) noMarks) (p3 .now)))
-  said-4 r-middle r = exE 𝓤 _ (λ ws. snd∗ 𝓤 (sem 𝓤 H A (lasts c4.ended (κp3, tt) ((r-middle .span), (p3, (p1, tt))) ws)) (fact 𝓤 (r ≡ foldGather p1 0 (gatheringOf (r-middle .span) noMarks) (p3 .now))))
+  said-4 : (r-middle : CompareStart) (r : Gathering) → ent 𝓤 (ensured 𝓤 H A c4.ended (c4.clauses 𝓤 H A at-mem run) (κp3, tt) ((r-middle .span), (p3, (p1, tt))) tt r) (fact 𝓤 (r ≡ foldGather (clocksOf p1) 0 (gatheringOf (r-middle .span) noNotes) (p3 .now)))
+  said-4 r-middle r = exE 𝓤 _ (λ ws. snd∗ 𝓤 (sem 𝓤 H A (lasts c4.ended (κp3, tt) ((r-middle .span), (p3, (p1, tt))) ws)) (fact 𝓤 (r ≡ foldGather (clocksOf p1) 0 (gatheringOf (r-middle .span) noNotes) (p3 .now))))
 
   abbrev to-5 : (r-a : Gathering) (r-b : Gathering) → Of-c5 𝓤 H A at-mem run .Ghost
   to-5 r-a r-b = ((tt, tt, tt, (r-a, (r-b, ((length (p2 .now)), tt))), ((LL.val RGathering.the-type LGathering.the-laws r-a) ∷ [], ((LL.val RGathering.the-type LGathering.the-laws r-b) ∷ [], ((vint w64 (length (p2 .now))) ∷ [], tt)))), tt)
@@ -209,7 +211,7 @@ module _ {M : Type 1} (𝓤 : URA M) (H : Heap 𝓤) (A : Atoms 𝓤) (W : Given
     abbrev At-9 : (r-start : CompareStart) (r-a : Gathering) (r-middle : CompareStart) (r-b : Gathering) → List (Entry 𝓤)
     At-9 r-start r-a r-middle r-b = ‵ (froom LComparison.mir l0 0) ∷ ‵ (fat fullShare (tyInt w64) l1 0 (vint w64 p1)) ∷ ‵ (fat fullShare (sliceTy (tyRef (named 0) imm (pointee (RTimestamp.the-row .written)))) l2 0 (sliceVal (p2 .ptr) (length (p2 .now)))) ∷ ‵ (fat fullShare (sliceTy (tyRef (named 1) imm (pointee (RTimestamp.the-row .written)))) l3 0 (sliceVal (p3 .ptr) (length (p3 .now)))) ∷ ‵ (fat fullShare (tyInt w64) l4 0 (vint w64 (length (p2 .now)))) ∷ ‵ (fat fullShare (tyInt w64) l5 0 (vint w64 (length (p3 .now)))) ∷ ‵ (fat fullShare LCompareStart.mir l6 0 (LL.val RCompareStart.the-type LCompareStart.the-laws r-start)) ∷ ‵ (fat fullShare LGathering.mir l7 0 (LL.val RGathering.the-type LGathering.the-laws r-a)) ∷ ‵ (fat fullShare LCompareStart.mir l8 0 (LL.val RCompareStart.the-type LCompareStart.the-laws r-middle)) ∷ ‵ (fat fullShare LGathering.mir l9 0 (LL.val RGathering.the-type LGathering.the-laws r-b)) ∷ ‵ (froom tyBool l10 0) ∷ ‵ (flft κp2 qp2) ∷ ‵ ((ShrSlice (named 0) κp2 RTimestamp.the-row) .own p2 ((sliceVal (p2 .ptr) (length (p2 .now))) ∷ [])) ∷ ‵ (flft κp3 qp3) ∷ ‵ ((ShrSlice (named 1) κp3 RTimestamp.the-row) .own p3 ((sliceVal (p3 .ptr) (length (p3 .now))) ∷ [])) ∷ ‵ (fdies LComparison.mir l0) ∷ ‵ (fdies (tyInt w64) l1) ∷ ‵ (fdies (sliceTy (tyRef (named 0) imm (pointee (RTimestamp.the-row .written)))) l2) ∷ ‵ (fdies (sliceTy (tyRef (named 1) imm (pointee (RTimestamp.the-row .written)))) l3) ∷ ‵ (fdies (tyInt w64) l4) ∷ ‵ (fdies (tyInt w64) l5) ∷ ‵ (fdies LCompareStart.mir l6) ∷ ‵ (fdies LGathering.mir l7) ∷ ‵ (fdies LCompareStart.mir l8) ∷ ‵ (fdies LGathering.mir l9) ∷ ‵ (fdies tyBool l10) ∷ []
 
-    stage-9 : (r-start : CompareStart) (e-start : r-start ≡ compareStart (joinVerdict p1 (length (p2 .now))) 0) (i-start : Is RCompareStart.the-row r-start ((LL.val RCompareStart.the-type LCompareStart.the-laws r-start) ∷ [])) (h-0 : r-start .stop ≡ false) (r-a : Gathering) (e-a : r-a ≡ foldGather p1 0 (gatheringOf (r-start .span) noMarks) (p2 .now)) (i-a : Is RGathering.the-row r-a ((LL.val RGathering.the-type LGathering.the-laws r-a) ∷ [])) (r-middle : CompareStart) (e-middle : r-middle ≡ afterFirst r-a (length (p2 .now)) (length (p3 .now))) (i-middle : Is RCompareStart.the-row r-middle ((LL.val RCompareStart.the-type LCompareStart.the-laws r-middle) ∷ [])) (h-1 : r-middle .stop ≡ false) (r-b : Gathering) (e-b : r-b ≡ foldGather p1 0 (gatheringOf (r-middle .span) noMarks) (p3 .now)) (i-b : Is RGathering.the-row r-b ((LL.val RGathering.the-type LGathering.the-laws r-b) ∷ [])) → ent 𝓤 (⋆ 𝓤 H A (At-9 r-start r-a r-middle r-b)) (Wp 𝓤 H C Λ En parts.t-11 (atReturn 𝓤 H En Post))
+    stage-9 : (r-start : CompareStart) (e-start : r-start ≡ compareStart (joinVerdict p1 (length (p2 .now))) 0) (i-start : Is RCompareStart.the-row r-start ((LL.val RCompareStart.the-type LCompareStart.the-laws r-start) ∷ [])) (h-0 : r-start .stop ≡ false) (r-a : Gathering) (e-a : r-a ≡ foldGather (clocksOf p1) 0 (gatheringOf (r-start .span) noNotes) (p2 .now)) (i-a : Is RGathering.the-row r-a ((LL.val RGathering.the-type LGathering.the-laws r-a) ∷ [])) (r-middle : CompareStart) (e-middle : r-middle ≡ afterFirst r-a (length (p2 .now)) (length (p3 .now))) (i-middle : Is RCompareStart.the-row r-middle ((LL.val RCompareStart.the-type LCompareStart.the-laws r-middle) ∷ [])) (h-1 : r-middle .stop ≡ false) (r-b : Gathering) (e-b : r-b ≡ foldGather (clocksOf p1) 0 (gatheringOf (r-middle .span) noNotes) (p3 .now)) (i-b : Is RGathering.the-row r-b ((LL.val RGathering.the-type LGathering.the-laws r-b) ∷ [])) → ent 𝓤 (⋆ 𝓤 H A (At-9 r-start r-a r-middle r-b)) (Wp 𝓤 H C Λ En parts.t-11 (atReturn 𝓤 H En Post))
     unfolding compareRun
     stage-9 r-start e-start i-start h-0 r-a e-a i-a r-middle e-middle i-middle h-1 r-b e-b i-b =
         qed W (At-9 r-start r-a r-middle r-b) ∵ exec ! C Λ En parts.t-11 (atRet En Post) $
@@ -221,19 +223,19 @@ module _ {M : Type 1} (𝓤 : URA M) (H : Heap 𝓤) (A : Atoms 𝓤) (W : Given
         land ! (from ! (stop !)) (init ! 2 refl (LL.lawful RComparison.the-type LComparison.the-laws 𝓤 H A W .typed r _ is .0)) $ drop ! $
         returns ! (look ! 1 refl) $ forget ! 1 refl $ forget ! 2 refl $ forget ! 3 refl $ forget ! 4 refl $ forget ! 5 refl $ forget ! 6 refl $ forget ! 7 refl $ forget ! 8 refl $ forget ! 9 refl $ forget ! 10 refl $
         move ! (1 ∷ 16 ∷ []) $ free1 ! $ move ! (1 ∷ 15 ∷ []) $ free1 ! $ move ! (1 ∷ 14 ∷ []) $ free1 ! $ move ! (1 ∷ 13 ∷ []) $ free1 ! $ move ! (1 ∷ 12 ∷ []) $ free1 ! $ move ! (1 ∷ 11 ∷ []) $ free1 ! $ move ! (1 ∷ 10 ∷ []) $ free1 ! $ move ! (1 ∷ 9 ∷ []) $ free1 ! $ move ! (1 ∷ 8 ∷ []) $ free1 ! $ move ! (1 ∷ 7 ∷ []) $ free1 ! $ move ! (1 ∷ 6 ∷ []) $ free1 ! $ free0 ! $
-        keep ! (1 ∷ 3 ∷ []) $ by ! (exits r w (e ∙ (ap (λ (y : Gathering). compareDone (length (p2 .now)) r-a y) e-b ∙ (ap (λ (y : CompareStart). compareDone (length (p2 .now)) r-a (foldGather p1 0 (gatheringOf (y .span) noMarks) (p3 .now))) e-middle ∙ (ap (λ (y : Gathering). compareDone (length (p2 .now)) y (foldGather p1 0 (gatheringOf ((afterFirst y (length (p2 .now)) (length (p3 .now))) .span) noMarks) (p3 .now))) e-a ∙ (ap (λ (y : CompareStart). compareDone (length (p2 .now)) (foldGather p1 0 (gatheringOf (y .span) noMarks) (p2 .now)) (foldGather p1 0 (gatheringOf ((afterFirst (foldGather p1 0 (gatheringOf (y .span) noMarks) (p2 .now)) (length (p2 .now)) (length (p3 .now))) .span) noMarks) (p3 .now))) e-start)))) ∙ (ap (λ (t : Bool). choose t ((afterFirst (foldGather p1 0 (gatheringOf ((compareStart (joinVerdict p1 (length (p2 .now))) 0) .span) noMarks) (p2 .now)) (length (p2 .now)) (length (p3 .now))) .answer) (compareDone (length (p2 .now)) (foldGather p1 0 (gatheringOf ((compareStart (joinVerdict p1 (length (p2 .now))) 0) .span) noMarks) (p2 .now)) (foldGather p1 0 (gatheringOf ((afterFirst (foldGather p1 0 (gatheringOf ((compareStart (joinVerdict p1 (length (p2 .now))) 0) .span) noMarks) (p2 .now)) (length (p2 .now)) (length (p3 .now))) .span) noMarks) (p3 .now)))) (sym (sym (ap (λ (y : CompareStart). y .stop) (e-middle ∙ (ap (λ (y : Gathering). afterFirst y (length (p2 .now)) (length (p3 .now))) e-a ∙ (ap (λ (y : CompareStart). afterFirst (foldGather p1 0 (gatheringOf (y .span) noMarks) (p2 .now)) (length (p2 .now)) (length (p3 .now))) e-start)))) ∙ h-1)) ∙ (ap (λ (t : Bool). choose t ((compareStart (joinVerdict p1 (length (p2 .now))) 0) .answer) (choose ((afterFirst (foldGather p1 0 (gatheringOf ((compareStart (joinVerdict p1 (length (p2 .now))) 0) .span) noMarks) (p2 .now)) (length (p2 .now)) (length (p3 .now))) .stop) ((afterFirst (foldGather p1 0 (gatheringOf ((compareStart (joinVerdict p1 (length (p2 .now))) 0) .span) noMarks) (p2 .now)) (length (p2 .now)) (length (p3 .now))) .answer) (compareDone (length (p2 .now)) (foldGather p1 0 (gatheringOf ((compareStart (joinVerdict p1 (length (p2 .now))) 0) .span) noMarks) (p2 .now)) (foldGather p1 0 (gatheringOf ((afterFirst (foldGather p1 0 (gatheringOf ((compareStart (joinVerdict p1 (length (p2 .now))) 0) .span) noMarks) (p2 .now)) (length (p2 .now)) (length (p3 .now))) .span) noMarks) (p3 .now))))) (sym (sym (ap (λ (y : CompareStart). y .stop) (e-start)) ∙ h-0))))) is)))))
+        keep ! (1 ∷ 3 ∷ []) $ by ! (exits r w (e ∙ (ap (λ (y : Gathering). compareDone (length (p2 .now)) r-a y) e-b ∙ (ap (λ (y : CompareStart). compareDone (length (p2 .now)) r-a (foldGather (clocksOf p1) 0 (gatheringOf (y .span) noNotes) (p3 .now))) e-middle ∙ (ap (λ (y : Gathering). compareDone (length (p2 .now)) y (foldGather (clocksOf p1) 0 (gatheringOf ((afterFirst y (length (p2 .now)) (length (p3 .now))) .span) noNotes) (p3 .now))) e-a ∙ (ap (λ (y : CompareStart). compareDone (length (p2 .now)) (foldGather (clocksOf p1) 0 (gatheringOf (y .span) noNotes) (p2 .now)) (foldGather (clocksOf p1) 0 (gatheringOf ((afterFirst (foldGather (clocksOf p1) 0 (gatheringOf (y .span) noNotes) (p2 .now)) (length (p2 .now)) (length (p3 .now))) .span) noNotes) (p3 .now))) e-start)))) ∙ (ap (λ (t : Bool). choose t ((afterFirst (foldGather (clocksOf p1) 0 (gatheringOf ((compareStart (joinVerdict p1 (length (p2 .now))) 0) .span) noNotes) (p2 .now)) (length (p2 .now)) (length (p3 .now))) .answer) (compareDone (length (p2 .now)) (foldGather (clocksOf p1) 0 (gatheringOf ((compareStart (joinVerdict p1 (length (p2 .now))) 0) .span) noNotes) (p2 .now)) (foldGather (clocksOf p1) 0 (gatheringOf ((afterFirst (foldGather (clocksOf p1) 0 (gatheringOf ((compareStart (joinVerdict p1 (length (p2 .now))) 0) .span) noNotes) (p2 .now)) (length (p2 .now)) (length (p3 .now))) .span) noNotes) (p3 .now)))) (sym (sym (ap (λ (y : CompareStart). y .stop) (e-middle ∙ (ap (λ (y : Gathering). afterFirst y (length (p2 .now)) (length (p3 .now))) e-a ∙ (ap (λ (y : CompareStart). afterFirst (foldGather (clocksOf p1) 0 (gatheringOf (y .span) noNotes) (p2 .now)) (length (p2 .now)) (length (p3 .now))) e-start)))) ∙ h-1)) ∙ (ap (λ (t : Bool). choose t ((compareStart (joinVerdict p1 (length (p2 .now))) 0) .answer) (choose ((afterFirst (foldGather (clocksOf p1) 0 (gatheringOf ((compareStart (joinVerdict p1 (length (p2 .now))) 0) .span) noNotes) (p2 .now)) (length (p2 .now)) (length (p3 .now))) .stop) ((afterFirst (foldGather (clocksOf p1) 0 (gatheringOf ((compareStart (joinVerdict p1 (length (p2 .now))) 0) .span) noNotes) (p2 .now)) (length (p2 .now)) (length (p3 .now))) .answer) (compareDone (length (p2 .now)) (foldGather (clocksOf p1) 0 (gatheringOf ((compareStart (joinVerdict p1 (length (p2 .now))) 0) .span) noNotes) (p2 .now)) (foldGather (clocksOf p1) 0 (gatheringOf ((afterFirst (foldGather (clocksOf p1) 0 (gatheringOf ((compareStart (joinVerdict p1 (length (p2 .now))) 0) .span) noNotes) (p2 .now)) (length (p2 .now)) (length (p3 .now))) .span) noNotes) (p3 .now))))) (sym (sym (ap (λ (y : CompareStart). y .stop) (e-start)) ∙ h-0))))) is)))))
 
     abbrev At-8 : (r-start : CompareStart) (r-a : Gathering) (r-middle : CompareStart) → List (Entry 𝓤)
     At-8 r-start r-a r-middle = ‵ (froom LComparison.mir l0 0) ∷ ‵ (fat fullShare (tyInt w64) l1 0 (vint w64 p1)) ∷ ‵ (fat fullShare (sliceTy (tyRef (named 0) imm (pointee (RTimestamp.the-row .written)))) l2 0 (sliceVal (p2 .ptr) (length (p2 .now)))) ∷ ‵ (fat fullShare (sliceTy (tyRef (named 1) imm (pointee (RTimestamp.the-row .written)))) l3 0 (sliceVal (p3 .ptr) (length (p3 .now)))) ∷ ‵ (fat fullShare (tyInt w64) l4 0 (vint w64 (length (p2 .now)))) ∷ ‵ (fat fullShare (tyInt w64) l5 0 (vint w64 (length (p3 .now)))) ∷ ‵ (fat fullShare LCompareStart.mir l6 0 (LL.val RCompareStart.the-type LCompareStart.the-laws r-start)) ∷ ‵ (fat fullShare LGathering.mir l7 0 (LL.val RGathering.the-type LGathering.the-laws r-a)) ∷ ‵ (fat fullShare LCompareStart.mir l8 0 (LL.val RCompareStart.the-type LCompareStart.the-laws r-middle)) ∷ ‵ (froom LGathering.mir l9 0) ∷ ‵ (froom tyBool l10 0) ∷ ‵ (flft κp2 qp2) ∷ ‵ ((ShrSlice (named 0) κp2 RTimestamp.the-row) .own p2 ((sliceVal (p2 .ptr) (length (p2 .now))) ∷ [])) ∷ ‵ (flft κp3 qp3) ∷ ‵ ((ShrSlice (named 1) κp3 RTimestamp.the-row) .own p3 ((sliceVal (p3 .ptr) (length (p3 .now))) ∷ [])) ∷ ‵ (fdies LComparison.mir l0) ∷ ‵ (fdies (tyInt w64) l1) ∷ ‵ (fdies (sliceTy (tyRef (named 0) imm (pointee (RTimestamp.the-row .written)))) l2) ∷ ‵ (fdies (sliceTy (tyRef (named 1) imm (pointee (RTimestamp.the-row .written)))) l3) ∷ ‵ (fdies (tyInt w64) l4) ∷ ‵ (fdies (tyInt w64) l5) ∷ ‵ (fdies LCompareStart.mir l6) ∷ ‵ (fdies LGathering.mir l7) ∷ ‵ (fdies LCompareStart.mir l8) ∷ ‵ (fdies LGathering.mir l9) ∷ ‵ (fdies tyBool l10) ∷ []
 
-    stage-8 : (r-start : CompareStart) (e-start : r-start ≡ compareStart (joinVerdict p1 (length (p2 .now))) 0) (i-start : Is RCompareStart.the-row r-start ((LL.val RCompareStart.the-type LCompareStart.the-laws r-start) ∷ [])) (h-0 : r-start .stop ≡ false) (r-a : Gathering) (e-a : r-a ≡ foldGather p1 0 (gatheringOf (r-start .span) noMarks) (p2 .now)) (i-a : Is RGathering.the-row r-a ((LL.val RGathering.the-type LGathering.the-laws r-a) ∷ [])) (r-middle : CompareStart) (e-middle : r-middle ≡ afterFirst r-a (length (p2 .now)) (length (p3 .now))) (i-middle : Is RCompareStart.the-row r-middle ((LL.val RCompareStart.the-type LCompareStart.the-laws r-middle) ∷ [])) (h-1 : r-middle .stop ≡ false) → ent 𝓤 (⋆ 𝓤 H A (At-8 r-start r-a r-middle)) (Wp 𝓤 H C Λ En parts.t-10 (atReturn 𝓤 H En Post))
+    stage-8 : (r-start : CompareStart) (e-start : r-start ≡ compareStart (joinVerdict p1 (length (p2 .now))) 0) (i-start : Is RCompareStart.the-row r-start ((LL.val RCompareStart.the-type LCompareStart.the-laws r-start) ∷ [])) (h-0 : r-start .stop ≡ false) (r-a : Gathering) (e-a : r-a ≡ foldGather (clocksOf p1) 0 (gatheringOf (r-start .span) noNotes) (p2 .now)) (i-a : Is RGathering.the-row r-a ((LL.val RGathering.the-type LGathering.the-laws r-a) ∷ [])) (r-middle : CompareStart) (e-middle : r-middle ≡ afterFirst r-a (length (p2 .now)) (length (p3 .now))) (i-middle : Is RCompareStart.the-row r-middle ((LL.val RCompareStart.the-type LCompareStart.the-laws r-middle) ∷ [])) (h-1 : r-middle .stop ≡ false) → ent 𝓤 (⋆ 𝓤 H A (At-8 r-start r-a r-middle)) (Wp 𝓤 H C Λ En parts.t-10 (atReturn 𝓤 H En Post))
     stage-8 r-start e-start i-start h-0 r-a e-a i-a r-middle e-middle i-middle h-1 =
         qed W (At-8 r-start r-a r-middle) ∵ exec ! C Λ En parts.t-10 (atRet En Post) $
         move ! (14 ∷ []) $ use1 W (‵ ((ShrSlice (named 1) κp3 RTimestamp.the-row) .own p3 ((sliceVal (p3 .ptr) (length (p3 .now))) ∷ [])) ⊛ ‵ ((ShrSlice (named 1) κp3 RTimestamp.the-row) .own p3 ((sliceVal (p3 .ptr) (length (p3 .now))) ∷ []))) (shr-slice-copy 𝓤 H A W (named 1) κp3 RTimestamp.the-row .twice p3 ((sliceVal (p3 .ptr) (length (p3 .now))) ∷ [])) $ split ! $ move ! (1 ∷ []) $ move ! (15 ∷ 0 ∷ []) $ join ! $
         use1 W (raw (Of-c4 𝓤 H A at-mem run .pre (to-4 r-middle))) (goes-to-4 r-middle i-middle) $
         calls-at ! fm (Of-c4 𝓤 H A at-mem run) known-c4 (to-4 r-middle) (and-then ! (load ! (from ! (fld ! refl (stop !))) (look-in ! 10 (sub ! 2 refl (whole !)))) (and-then ! (load ! (from ! (stop !)) (look ! 5 refl)) (and-then ! (load ! (from ! (stop !)) (look ! 3 refl)) (no-more !)))) (λ w.
         use1 W (later (some (λ (r : Gathering). ((‵ (flft κp3 qp3) ⊛ ‵ ftrue) ⊛ ‵ (RGathering.the-row .own r (w ∷ []))) ⊛ raw (ensured 𝓤 H A c4.ended (c4.clauses 𝓤 H A at-mem run) (κp3, tt) ((r-middle .span), (p3, (p1, tt))) tt r)))) (id⊢ 𝓤 _) $ await ! tt $ pick ! (λ r.
-        split ! $ move ! (1 ∷ []) $ use1 W (raw (fact 𝓤 (r ≡ foldGather p1 0 (gatheringOf (r-middle .span) noMarks) (p3 .now)))) (said-4 r-middle r) $ heard ! (r ≡ foldGather p1 0 (gatheringOf (r-middle .span) noMarks) (p3 .now)) (λ e. split ! $ move ! (1 ∷ []) $
+        split ! $ move ! (1 ∷ []) $ use1 W (raw (fact 𝓤 (r ≡ foldGather (clocksOf p1) 0 (gatheringOf (r-middle .span) noNotes) (p3 .now)))) (said-4 r-middle r) $ heard ! (r ≡ foldGather (clocksOf p1) 0 (gatheringOf (r-middle .span) noNotes) (p3 .now)) (λ e. split ! $ move ! (1 ∷ []) $
         peeks ! RGathering.the-row (Is RGathering.the-row) (shows 𝓤 H A RGathering.the-row) r (w ∷ []) (λ is.
         land ! (from ! (stop !)) (init ! 12 refl (LL.lawful RGathering.the-type LGathering.the-laws 𝓤 H A W .typed r _ is .0)) $ drop ! $ move ! (0 ∷ []) $ split ! $
         rewrite ! 12 (λ (u : Val). ‵ (fat fullShare LGathering.mir l9 0 u)) (ap only ((LL.tells RGathering.the-type LGathering.the-laws) r (w ∷ []) is)) refl $ keep ! (3 ∷ 4 ∷ 5 ∷ 6 ∷ 7 ∷ 8 ∷ 9 ∷ 10 ∷ 11 ∷ 12 ∷ 13 ∷ 14 ∷ 15 ∷ 0 ∷ 2 ∷ 16 ∷ 17 ∷ 18 ∷ 19 ∷ 20 ∷ 21 ∷ 22 ∷ 23 ∷ 24 ∷ 25 ∷ 26 ∷ []) $ by ! (stage-9 r-start e-start i-start h-0 r-a e-a i-a r-middle e-middle i-middle h-1 r e (subst (Is RGathering.the-row r) ((LL.tells RGathering.the-type LGathering.the-laws) r (w ∷ []) is) is))))))
@@ -241,7 +243,7 @@ module _ {M : Type 1} (𝓤 : URA M) (H : Heap 𝓤) (A : Atoms 𝓤) (W : Given
     abbrev At-7 : (r-start : CompareStart) (r-a : Gathering) (r-middle : CompareStart) → List (Entry 𝓤)
     At-7 r-start r-a r-middle = ‵ (froom LComparison.mir l0 0) ∷ ‵ (fat fullShare (tyInt w64) l1 0 (vint w64 p1)) ∷ ‵ (fat fullShare (sliceTy (tyRef (named 0) imm (pointee (RTimestamp.the-row .written)))) l2 0 (sliceVal (p2 .ptr) (length (p2 .now)))) ∷ ‵ (fat fullShare (sliceTy (tyRef (named 1) imm (pointee (RTimestamp.the-row .written)))) l3 0 (sliceVal (p3 .ptr) (length (p3 .now)))) ∷ ‵ (fat fullShare (tyInt w64) l4 0 (vint w64 (length (p2 .now)))) ∷ ‵ (fat fullShare (tyInt w64) l5 0 (vint w64 (length (p3 .now)))) ∷ ‵ (fat fullShare LCompareStart.mir l6 0 (LL.val RCompareStart.the-type LCompareStart.the-laws r-start)) ∷ ‵ (fat fullShare LGathering.mir l7 0 (LL.val RGathering.the-type LGathering.the-laws r-a)) ∷ ‵ (fat fullShare LCompareStart.mir l8 0 (LL.val RCompareStart.the-type LCompareStart.the-laws r-middle)) ∷ ‵ (froom LGathering.mir l9 0) ∷ ‵ (froom tyBool l10 0) ∷ ‵ (flft κp2 qp2) ∷ ‵ ((ShrSlice (named 0) κp2 RTimestamp.the-row) .own p2 ((sliceVal (p2 .ptr) (length (p2 .now))) ∷ [])) ∷ ‵ (flft κp3 qp3) ∷ ‵ ((ShrSlice (named 1) κp3 RTimestamp.the-row) .own p3 ((sliceVal (p3 .ptr) (length (p3 .now))) ∷ [])) ∷ ‵ (fdies LComparison.mir l0) ∷ ‵ (fdies (tyInt w64) l1) ∷ ‵ (fdies (sliceTy (tyRef (named 0) imm (pointee (RTimestamp.the-row .written)))) l2) ∷ ‵ (fdies (sliceTy (tyRef (named 1) imm (pointee (RTimestamp.the-row .written)))) l3) ∷ ‵ (fdies (tyInt w64) l4) ∷ ‵ (fdies (tyInt w64) l5) ∷ ‵ (fdies LCompareStart.mir l6) ∷ ‵ (fdies LGathering.mir l7) ∷ ‵ (fdies LCompareStart.mir l8) ∷ ‵ (fdies LGathering.mir l9) ∷ ‵ (fdies tyBool l10) ∷ []
 
-    stage-7 : (r-start : CompareStart) (e-start : r-start ≡ compareStart (joinVerdict p1 (length (p2 .now))) 0) (i-start : Is RCompareStart.the-row r-start ((LL.val RCompareStart.the-type LCompareStart.the-laws r-start) ∷ [])) (h-0 : r-start .stop ≡ false) (r-a : Gathering) (e-a : r-a ≡ foldGather p1 0 (gatheringOf (r-start .span) noMarks) (p2 .now)) (i-a : Is RGathering.the-row r-a ((LL.val RGathering.the-type LGathering.the-laws r-a) ∷ [])) (r-middle : CompareStart) (e-middle : r-middle ≡ afterFirst r-a (length (p2 .now)) (length (p3 .now))) (i-middle : Is RCompareStart.the-row r-middle ((LL.val RCompareStart.the-type LCompareStart.the-laws r-middle) ∷ [])) → ent 𝓤 (⋆ 𝓤 H A (At-7 r-start r-a r-middle)) (Wp 𝓤 H C Λ En parts.t-8 (atReturn 𝓤 H En Post))
+    stage-7 : (r-start : CompareStart) (e-start : r-start ≡ compareStart (joinVerdict p1 (length (p2 .now))) 0) (i-start : Is RCompareStart.the-row r-start ((LL.val RCompareStart.the-type LCompareStart.the-laws r-start) ∷ [])) (h-0 : r-start .stop ≡ false) (r-a : Gathering) (e-a : r-a ≡ foldGather (clocksOf p1) 0 (gatheringOf (r-start .span) noNotes) (p2 .now)) (i-a : Is RGathering.the-row r-a ((LL.val RGathering.the-type LGathering.the-laws r-a) ∷ [])) (r-middle : CompareStart) (e-middle : r-middle ≡ afterFirst r-a (length (p2 .now)) (length (p3 .now))) (i-middle : Is RCompareStart.the-row r-middle ((LL.val RCompareStart.the-type LCompareStart.the-laws r-middle) ∷ [])) → ent 𝓤 (⋆ 𝓤 H A (At-7 r-start r-a r-middle)) (Wp 𝓤 H C Λ En parts.t-8 (atReturn 𝓤 H En Post))
     unfolding compareRun
     stage-7 r-start e-start i-start h-0 r-a e-a i-a r-middle e-middle i-middle =
         qed W (At-7 r-start r-a r-middle) ∵ exec ! C Λ En parts.t-8 (atRet En Post) $
@@ -250,13 +252,13 @@ module _ {M : Type 1} (𝓤 : URA M) (H : Heap 𝓤) (A : Atoms 𝓤) (W : Given
         (λ t. assigns ! (of-opd ! (load ! (from ! (fld ! refl (stop !))) (look-in ! 8 (sub ! 1 refl (whole !))))) (from ! (stop !)) (init ! 0 refl (LL.lawful RComparison.the-type LComparison.the-laws 𝓤 H A W .typed (r-middle .answer) _ (LL.owed RCompareStart.the-type LCompareStart.the-laws r-middle _ i-middle .1 .0) .0)) $ returns-within ! Post refl (look ! 0 refl) $
         forget ! 0 refl $ forget ! 1 refl $ forget ! 2 refl $ forget ! 3 refl $ forget ! 4 refl $ forget ! 5 refl $ forget ! 6 refl $ forget ! 7 refl $ forget ! 8 refl $ forget ! 10 refl $
         move ! (0 ∷ 15 ∷ []) $ free1 ! $ move ! (0 ∷ 14 ∷ []) $ free1 ! $ move ! (0 ∷ 13 ∷ []) $ free1 ! $ move ! (0 ∷ 12 ∷ []) $ free1 ! $ move ! (0 ∷ 11 ∷ []) $ free1 ! $ move ! (0 ∷ 10 ∷ []) $ free1 ! $ move ! (0 ∷ 9 ∷ []) $ free1 ! $ move ! (0 ∷ 8 ∷ []) $ free1 ! $ move ! (0 ∷ 7 ∷ []) $ free1 ! $ move ! (0 ∷ 6 ∷ []) $ free1 ! $ move ! (0 ∷ 5 ∷ []) $ free1 ! $ free0 ! $
-        keep ! (0 ∷ 2 ∷ []) $ by ! (exits (r-middle .answer) (LL.val RComparison.the-type LComparison.the-laws (r-middle .answer)) (ap (λ (y : CompareStart). y .answer) (e-middle ∙ (ap (λ (y : Gathering). afterFirst y (length (p2 .now)) (length (p3 .now))) e-a ∙ (ap (λ (y : CompareStart). afterFirst (foldGather p1 0 (gatheringOf (y .span) noMarks) (p2 .now)) (length (p2 .now)) (length (p3 .now))) e-start))) ∙ (ap (λ (t : Bool). choose t ((afterFirst (foldGather p1 0 (gatheringOf ((compareStart (joinVerdict p1 (length (p2 .now))) 0) .span) noMarks) (p2 .now)) (length (p2 .now)) (length (p3 .now))) .answer) (compareDone (length (p2 .now)) (foldGather p1 0 (gatheringOf ((compareStart (joinVerdict p1 (length (p2 .now))) 0) .span) noMarks) (p2 .now)) (foldGather p1 0 (gatheringOf ((afterFirst (foldGather p1 0 (gatheringOf ((compareStart (joinVerdict p1 (length (p2 .now))) 0) .span) noMarks) (p2 .now)) (length (p2 .now)) (length (p3 .now))) .span) noMarks) (p3 .now)))) (sym (sym (ap (λ (y : CompareStart). y .stop) (e-middle ∙ (ap (λ (y : Gathering). afterFirst y (length (p2 .now)) (length (p3 .now))) e-a ∙ (ap (λ (y : CompareStart). afterFirst (foldGather p1 0 (gatheringOf (y .span) noMarks) (p2 .now)) (length (p2 .now)) (length (p3 .now))) e-start)))) ∙ holds (r-middle .stop) t)) ∙ (ap (λ (t : Bool). choose t ((compareStart (joinVerdict p1 (length (p2 .now))) 0) .answer) (choose ((afterFirst (foldGather p1 0 (gatheringOf ((compareStart (joinVerdict p1 (length (p2 .now))) 0) .span) noMarks) (p2 .now)) (length (p2 .now)) (length (p3 .now))) .stop) ((afterFirst (foldGather p1 0 (gatheringOf ((compareStart (joinVerdict p1 (length (p2 .now))) 0) .span) noMarks) (p2 .now)) (length (p2 .now)) (length (p3 .now))) .answer) (compareDone (length (p2 .now)) (foldGather p1 0 (gatheringOf ((compareStart (joinVerdict p1 (length (p2 .now))) 0) .span) noMarks) (p2 .now)) (foldGather p1 0 (gatheringOf ((afterFirst (foldGather p1 0 (gatheringOf ((compareStart (joinVerdict p1 (length (p2 .now))) 0) .span) noMarks) (p2 .now)) (length (p2 .now)) (length (p3 .now))) .span) noMarks) (p3 .now))))) (sym (sym (ap (λ (y : CompareStart). y .stop) (e-start)) ∙ h-0))))) (LL.owed RCompareStart.the-type LCompareStart.the-laws r-middle _ i-middle .1 .0)))
+        keep ! (0 ∷ 2 ∷ []) $ by ! (exits (r-middle .answer) (LL.val RComparison.the-type LComparison.the-laws (r-middle .answer)) (ap (λ (y : CompareStart). y .answer) (e-middle ∙ (ap (λ (y : Gathering). afterFirst y (length (p2 .now)) (length (p3 .now))) e-a ∙ (ap (λ (y : CompareStart). afterFirst (foldGather (clocksOf p1) 0 (gatheringOf (y .span) noNotes) (p2 .now)) (length (p2 .now)) (length (p3 .now))) e-start))) ∙ (ap (λ (t : Bool). choose t ((afterFirst (foldGather (clocksOf p1) 0 (gatheringOf ((compareStart (joinVerdict p1 (length (p2 .now))) 0) .span) noNotes) (p2 .now)) (length (p2 .now)) (length (p3 .now))) .answer) (compareDone (length (p2 .now)) (foldGather (clocksOf p1) 0 (gatheringOf ((compareStart (joinVerdict p1 (length (p2 .now))) 0) .span) noNotes) (p2 .now)) (foldGather (clocksOf p1) 0 (gatheringOf ((afterFirst (foldGather (clocksOf p1) 0 (gatheringOf ((compareStart (joinVerdict p1 (length (p2 .now))) 0) .span) noNotes) (p2 .now)) (length (p2 .now)) (length (p3 .now))) .span) noNotes) (p3 .now)))) (sym (sym (ap (λ (y : CompareStart). y .stop) (e-middle ∙ (ap (λ (y : Gathering). afterFirst y (length (p2 .now)) (length (p3 .now))) e-a ∙ (ap (λ (y : CompareStart). afterFirst (foldGather (clocksOf p1) 0 (gatheringOf (y .span) noNotes) (p2 .now)) (length (p2 .now)) (length (p3 .now))) e-start)))) ∙ holds (r-middle .stop) t)) ∙ (ap (λ (t : Bool). choose t ((compareStart (joinVerdict p1 (length (p2 .now))) 0) .answer) (choose ((afterFirst (foldGather (clocksOf p1) 0 (gatheringOf ((compareStart (joinVerdict p1 (length (p2 .now))) 0) .span) noNotes) (p2 .now)) (length (p2 .now)) (length (p3 .now))) .stop) ((afterFirst (foldGather (clocksOf p1) 0 (gatheringOf ((compareStart (joinVerdict p1 (length (p2 .now))) 0) .span) noNotes) (p2 .now)) (length (p2 .now)) (length (p3 .now))) .answer) (compareDone (length (p2 .now)) (foldGather (clocksOf p1) 0 (gatheringOf ((compareStart (joinVerdict p1 (length (p2 .now))) 0) .span) noNotes) (p2 .now)) (foldGather (clocksOf p1) 0 (gatheringOf ((afterFirst (foldGather (clocksOf p1) 0 (gatheringOf ((compareStart (joinVerdict p1 (length (p2 .now))) 0) .span) noNotes) (p2 .now)) (length (p2 .now)) (length (p3 .now))) .span) noNotes) (p3 .now))))) (sym (sym (ap (λ (y : CompareStart). y .stop) (e-start)) ∙ h-0))))) (LL.owed RCompareStart.the-type LCompareStart.the-laws r-middle _ i-middle .1 .0)))
         (λ t. skips ! $ forget ! 10 refl $ by ! (stage-8 r-start e-start i-start h-0 r-a e-a i-a r-middle e-middle i-middle (fails (r-middle .stop) t)))
 
     abbrev At-6 : (r-start : CompareStart) (r-a : Gathering) → List (Entry 𝓤)
     At-6 r-start r-a = ‵ (froom LComparison.mir l0 0) ∷ ‵ (fat fullShare (tyInt w64) l1 0 (vint w64 p1)) ∷ ‵ (fat fullShare (sliceTy (tyRef (named 0) imm (pointee (RTimestamp.the-row .written)))) l2 0 (sliceVal (p2 .ptr) (length (p2 .now)))) ∷ ‵ (fat fullShare (sliceTy (tyRef (named 1) imm (pointee (RTimestamp.the-row .written)))) l3 0 (sliceVal (p3 .ptr) (length (p3 .now)))) ∷ ‵ (fat fullShare (tyInt w64) l4 0 (vint w64 (length (p2 .now)))) ∷ ‵ (fat fullShare (tyInt w64) l5 0 (vint w64 (length (p3 .now)))) ∷ ‵ (fat fullShare LCompareStart.mir l6 0 (LL.val RCompareStart.the-type LCompareStart.the-laws r-start)) ∷ ‵ (fat fullShare LGathering.mir l7 0 (LL.val RGathering.the-type LGathering.the-laws r-a)) ∷ ‵ (froom LCompareStart.mir l8 0) ∷ ‵ (froom LGathering.mir l9 0) ∷ ‵ (froom tyBool l10 0) ∷ ‵ (flft κp2 qp2) ∷ ‵ ((ShrSlice (named 0) κp2 RTimestamp.the-row) .own p2 ((sliceVal (p2 .ptr) (length (p2 .now))) ∷ [])) ∷ ‵ (flft κp3 qp3) ∷ ‵ ((ShrSlice (named 1) κp3 RTimestamp.the-row) .own p3 ((sliceVal (p3 .ptr) (length (p3 .now))) ∷ [])) ∷ ‵ (fdies LComparison.mir l0) ∷ ‵ (fdies (tyInt w64) l1) ∷ ‵ (fdies (sliceTy (tyRef (named 0) imm (pointee (RTimestamp.the-row .written)))) l2) ∷ ‵ (fdies (sliceTy (tyRef (named 1) imm (pointee (RTimestamp.the-row .written)))) l3) ∷ ‵ (fdies (tyInt w64) l4) ∷ ‵ (fdies (tyInt w64) l5) ∷ ‵ (fdies LCompareStart.mir l6) ∷ ‵ (fdies LGathering.mir l7) ∷ ‵ (fdies LCompareStart.mir l8) ∷ ‵ (fdies LGathering.mir l9) ∷ ‵ (fdies tyBool l10) ∷ []
 
-    stage-6 : (r-start : CompareStart) (e-start : r-start ≡ compareStart (joinVerdict p1 (length (p2 .now))) 0) (i-start : Is RCompareStart.the-row r-start ((LL.val RCompareStart.the-type LCompareStart.the-laws r-start) ∷ [])) (h-0 : r-start .stop ≡ false) (r-a : Gathering) (e-a : r-a ≡ foldGather p1 0 (gatheringOf (r-start .span) noMarks) (p2 .now)) (i-a : Is RGathering.the-row r-a ((LL.val RGathering.the-type LGathering.the-laws r-a) ∷ [])) → ent 𝓤 (⋆ 𝓤 H A (At-6 r-start r-a)) (Wp 𝓤 H C Λ En parts.t-7 (atReturn 𝓤 H En Post))
+    stage-6 : (r-start : CompareStart) (e-start : r-start ≡ compareStart (joinVerdict p1 (length (p2 .now))) 0) (i-start : Is RCompareStart.the-row r-start ((LL.val RCompareStart.the-type LCompareStart.the-laws r-start) ∷ [])) (h-0 : r-start .stop ≡ false) (r-a : Gathering) (e-a : r-a ≡ foldGather (clocksOf p1) 0 (gatheringOf (r-start .span) noNotes) (p2 .now)) (i-a : Is RGathering.the-row r-a ((LL.val RGathering.the-type LGathering.the-laws r-a) ∷ [])) → ent 𝓤 (⋆ 𝓤 H A (At-6 r-start r-a)) (Wp 𝓤 H C Λ En parts.t-7 (atReturn 𝓤 H En Post))
     stage-6 r-start e-start i-start h-0 r-a e-a i-a =
         qed W (At-6 r-start r-a) ∵ exec ! C Λ En parts.t-7 (atRet En Post) $
         use0 W (raw (Of-c3 𝓤 H A at-mem run .pre (to-3 r-a))) (goes-to-3 r-a i-a) $
@@ -277,7 +279,7 @@ module _ {M : Type 1} (𝓤 : URA M) (H : Heap 𝓤) (A : Atoms 𝓤) (W : Given
         use1 W (raw (Of-c2 𝓤 H A at-mem run .pre (to-2 r-start))) (goes-to-2 r-start i-start) $
         calls-at ! fm (Of-c2 𝓤 H A at-mem run) known-c2 (to-2 r-start) (and-then ! (load ! (from ! (fld ! refl (stop !))) (look-in ! 8 (sub ! 2 refl (whole !)))) (and-then ! (load ! (from ! (stop !)) (look ! 4 refl)) (and-then ! (load ! (from ! (stop !)) (look ! 3 refl)) (no-more !)))) (λ w.
         use1 W (later (some (λ (r : Gathering). ((‵ (flft κp2 qp2) ⊛ ‵ ftrue) ⊛ ‵ (RGathering.the-row .own r (w ∷ []))) ⊛ raw (ensured 𝓤 H A c2.ended (c2.clauses 𝓤 H A at-mem run) (κp2, tt) ((r-start .span), (p2, (p1, tt))) tt r)))) (id⊢ 𝓤 _) $ await ! tt $ pick ! (λ r.
-        split ! $ move ! (1 ∷ []) $ use1 W (raw (fact 𝓤 (r ≡ foldGather p1 0 (gatheringOf (r-start .span) noMarks) (p2 .now)))) (said-2 r-start r) $ heard ! (r ≡ foldGather p1 0 (gatheringOf (r-start .span) noMarks) (p2 .now)) (λ e. split ! $ move ! (1 ∷ []) $
+        split ! $ move ! (1 ∷ []) $ use1 W (raw (fact 𝓤 (r ≡ foldGather (clocksOf p1) 0 (gatheringOf (r-start .span) noNotes) (p2 .now)))) (said-2 r-start r) $ heard ! (r ≡ foldGather (clocksOf p1) 0 (gatheringOf (r-start .span) noNotes) (p2 .now)) (λ e. split ! $ move ! (1 ∷ []) $
         peeks ! RGathering.the-row (Is RGathering.the-row) (shows 𝓤 H A RGathering.the-row) r (w ∷ []) (λ is.
         land ! (from ! (stop !)) (init ! 10 refl (LL.lawful RGathering.the-type LGathering.the-laws 𝓤 H A W .typed r _ is .0)) $ drop ! $ move ! (0 ∷ []) $ split ! $
         rewrite ! 10 (λ (u : Val). ‵ (fat fullShare LGathering.mir l7 0 u)) (ap only ((LL.tells RGathering.the-type LGathering.the-laws) r (w ∷ []) is)) refl $ keep ! (3 ∷ 4 ∷ 5 ∷ 6 ∷ 7 ∷ 8 ∷ 9 ∷ 10 ∷ 11 ∷ 12 ∷ 13 ∷ 0 ∷ 2 ∷ 14 ∷ 15 ∷ 16 ∷ 17 ∷ 18 ∷ 19 ∷ 20 ∷ 21 ∷ 22 ∷ 23 ∷ 24 ∷ 25 ∷ 26 ∷ []) $ by ! (stage-6 r-start e-start i-start h-0 r e (subst (Is RGathering.the-row r) ((LL.tells RGathering.the-type LGathering.the-laws) r (w ∷ []) is) is))))))
@@ -294,7 +296,7 @@ module _ {M : Type 1} (𝓤 : URA M) (H : Heap 𝓤) (A : Atoms 𝓤) (W : Given
         (λ t. assigns ! (of-opd ! (load ! (from ! (fld ! refl (stop !))) (look-in ! 6 (sub ! 1 refl (whole !))))) (from ! (stop !)) (init ! 0 refl (LL.lawful RComparison.the-type LComparison.the-laws 𝓤 H A W .typed (r-start .answer) _ (LL.owed RCompareStart.the-type LCompareStart.the-laws r-start _ i-start .1 .0) .0)) $ returns-within ! Post refl (look ! 0 refl) $
         forget ! 0 refl $ forget ! 1 refl $ forget ! 2 refl $ forget ! 3 refl $ forget ! 4 refl $ forget ! 5 refl $ forget ! 6 refl $ forget ! 10 refl $
         move ! (0 ∷ 15 ∷ []) $ free1 ! $ move ! (0 ∷ 14 ∷ []) $ free1 ! $ move ! (0 ∷ 13 ∷ []) $ free1 ! $ move ! (0 ∷ 12 ∷ []) $ free1 ! $ move ! (0 ∷ 11 ∷ []) $ free1 ! $ move ! (0 ∷ 10 ∷ []) $ free1 ! $ move ! (0 ∷ 9 ∷ []) $ free1 ! $ move ! (0 ∷ 8 ∷ []) $ free1 ! $ move ! (0 ∷ 7 ∷ []) $ free1 ! $ move ! (0 ∷ 6 ∷ []) $ free1 ! $ move ! (0 ∷ 5 ∷ []) $ free1 ! $ free0 ! $
-        keep ! (0 ∷ 2 ∷ []) $ by ! (exits (r-start .answer) (LL.val RComparison.the-type LComparison.the-laws (r-start .answer)) (ap (λ (y : CompareStart). y .answer) (e-start) ∙ (ap (λ (t : Bool). choose t ((compareStart (joinVerdict p1 (length (p2 .now))) 0) .answer) (choose ((afterFirst (foldGather p1 0 (gatheringOf ((compareStart (joinVerdict p1 (length (p2 .now))) 0) .span) noMarks) (p2 .now)) (length (p2 .now)) (length (p3 .now))) .stop) ((afterFirst (foldGather p1 0 (gatheringOf ((compareStart (joinVerdict p1 (length (p2 .now))) 0) .span) noMarks) (p2 .now)) (length (p2 .now)) (length (p3 .now))) .answer) (compareDone (length (p2 .now)) (foldGather p1 0 (gatheringOf ((compareStart (joinVerdict p1 (length (p2 .now))) 0) .span) noMarks) (p2 .now)) (foldGather p1 0 (gatheringOf ((afterFirst (foldGather p1 0 (gatheringOf ((compareStart (joinVerdict p1 (length (p2 .now))) 0) .span) noMarks) (p2 .now)) (length (p2 .now)) (length (p3 .now))) .span) noMarks) (p3 .now))))) (sym (sym (ap (λ (y : CompareStart). y .stop) (e-start)) ∙ holds (r-start .stop) t)))) (LL.owed RCompareStart.the-type LCompareStart.the-laws r-start _ i-start .1 .0)))
+        keep ! (0 ∷ 2 ∷ []) $ by ! (exits (r-start .answer) (LL.val RComparison.the-type LComparison.the-laws (r-start .answer)) (ap (λ (y : CompareStart). y .answer) (e-start) ∙ (ap (λ (t : Bool). choose t ((compareStart (joinVerdict p1 (length (p2 .now))) 0) .answer) (choose ((afterFirst (foldGather (clocksOf p1) 0 (gatheringOf ((compareStart (joinVerdict p1 (length (p2 .now))) 0) .span) noNotes) (p2 .now)) (length (p2 .now)) (length (p3 .now))) .stop) ((afterFirst (foldGather (clocksOf p1) 0 (gatheringOf ((compareStart (joinVerdict p1 (length (p2 .now))) 0) .span) noNotes) (p2 .now)) (length (p2 .now)) (length (p3 .now))) .answer) (compareDone (length (p2 .now)) (foldGather (clocksOf p1) 0 (gatheringOf ((compareStart (joinVerdict p1 (length (p2 .now))) 0) .span) noNotes) (p2 .now)) (foldGather (clocksOf p1) 0 (gatheringOf ((afterFirst (foldGather (clocksOf p1) 0 (gatheringOf ((compareStart (joinVerdict p1 (length (p2 .now))) 0) .span) noNotes) (p2 .now)) (length (p2 .now)) (length (p3 .now))) .span) noNotes) (p3 .now))))) (sym (sym (ap (λ (y : CompareStart). y .stop) (e-start)) ∙ holds (r-start .stop) t)))) (LL.owed RCompareStart.the-type LCompareStart.the-laws r-start _ i-start .1 .0)))
         (λ t. skips ! $ forget ! 10 refl $ by ! (stage-5 r-start e-start i-start (fails (r-start .stop) t)))
 
     abbrev At-3 : List (Entry 𝓤)

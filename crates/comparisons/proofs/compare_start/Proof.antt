@@ -1,6 +1,6 @@
 -- The ratio, then the length.
 use Rattle.comparisons.specs.Steps.{compareStart}
-use mathlib.Core.Path.{sym, _∙_, ap}
+use mathlib.Core.Path.{_∙_, ap}
 use borrow.Author.Needs.{needs}
 use Rattle.comparisons.proofs.compare_start.Statement.{statement}
 use Rattle.comparisons.proofs.compare_start.Tie as tie

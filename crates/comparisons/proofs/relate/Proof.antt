@@ -2,7 +2,7 @@
 use borrow.Author.Needs.{needs}
 use mathlib.Core.Path.{_≡_, _∙_}
 use Prim.Native.Nat.{_≤_, _-_}
-use Rattle.comparisons.specs.Marks.{relatedMarks}
+use Rattle.comparisons.specs.Notes.{relatedNotes}
 use Rattle.comparisons.proofs.Relations.{relatedRest, rest-end, rest-start, rest-turn}
 use Rattle.comparisons.proofs.relate.Statement.{statement}
 use Rattle.comparisons.proofs.relate.Tie as tie
@@ -11,13 +11,13 @@ use Rattle.comparisons.proofs.relate.Lts as lts
 use Rattle.comparisons.proofs.relate_at.Reads as relate-at-reads
 
 abbrev Inv-loop : tie.InvT-loop
-Inv-loop from till first second r₀ k₀ r k = (k ≤ 8) × (relatedRest from till first second r k ≡ relatedMarks from till first second)
+Inv-loop a first second r₀ k₀ r k = (k ≤ 8) × (relatedRest a first second r k ≡ relatedNotes a first second)
 
 abbrev μ-loop : tie.MeasureT-loop
-μ-loop from till first second r₀ k₀ r k = 8 - k
+μ-loop a first second r₀ k₀ r k = 8 - k
 
 loop-holds : tie.Need-loop-holds Inv-loop μ-loop
-loop-holds c = (search needs, rest-start _ _ _ _)
+loop-holds c = (search needs, rest-start _ _ _)
 
 mul-relate-at : tie.Need-mul-relate-at Inv-loop μ-loop
 mul-relate-at c = search needs
@@ -31,6 +31,15 @@ mul-relate-at-2 c = search needs
 array-read-relate-at-2 : tie.Need-array-read-relate-at-2 Inv-loop μ-loop
 array-read-relate-at-2 c = search needs
 
+add-relate-at : tie.Need-add-relate-at Inv-loop μ-loop
+add-relate-at c = search needs
+
+mul-relate-at-3 : tie.Need-mul-relate-at-3 Inv-loop μ-loop
+mul-relate-at-3 c = search needs
+
+array-read-relate-at-3 : tie.Need-array-read-relate-at-3 Inv-loop μ-loop
+array-read-relate-at-3 c = search needs
+
 relate-at-requires : tie.Need-relate-at-requires Inv-loop μ-loop
 relate-at-requires c κs = search needs
 
@@ -41,10 +50,10 @@ loop-less : tie.Need-loop-less Inv-loop μ-loop
 loop-less c = search needs
 
 loop-again : tie.Need-loop-again Inv-loop μ-loop
-loop-again c = (search needs, rest-turn _ _ _ _ _ _ _ (c .before .loop-test .taken) (c .relate-at .ensures) ∙ c .before .before .loop .inv .1)
+loop-again c = (search needs, rest-turn _ _ _ _ _ _ (c .before .loop-test .taken) (c .relate-at .ensures) ∙ c .before .before .loop .inv .1)
 
 returns : tie.Need-returns Inv-loop μ-loop
-returns c = rest-end _ _ _ _ _ _ (c .loop-test .left) ∙ c .before .loop .inv .1
+returns c = rest-end _ _ _ _ _ (c .loop-test .left) ∙ c .before .loop .inv .1
 
 pub relate-spec : {M : Type 1} → statement M
 relate-spec =
@@ -57,6 +66,9 @@ relate-spec =
     array-read-relate-at
     mul-relate-at-2
     array-read-relate-at-2
+    add-relate-at
+    mul-relate-at-3
+    array-read-relate-at-3
     relate-at-requires
     add-k
     loop-less

@@ -1,5 +1,5 @@
--- By the mark of the second list.
-use Rattle.comparisons.specs.Marks.{relatedAt}
+-- By the note of the second list.
+use Rattle.comparisons.specs.Notes.{relatedAt}
 use borrow.Author.Tests.{eq-eqb}
 use Rattle.comparisons.proofs.Relations.{related-told}
 use borrow.Author.Needs.{needs}
@@ -8,18 +8,17 @@ use Rattle.comparisons.proofs.relate_at.Tie as tie
 use Rattle.comparisons.proofs.relate_at.Reads as reads
 use Rattle.comparisons.proofs.relate_at.Lts as lts
 use Rattle.comparisons.proofs.both.Reads as both-reads
-use Rattle.comparisons.proofs.is_earlier.Reads as is-earlier-reads
-use Rattle.comparisons.proofs.is_later.Reads as is-later-reads
+use Rattle.comparisons.proofs.meet.Reads as meet-reads
 
 returns : tie.Need-returns
 unfolding relatedAt
 returns c = rw (eq-eqb _ _ (c .if1 .taken))
 
-is-earlier-requires : tie.Need-is-earlier-requires
-is-earlier-requires c κs = search needs
+sub-t14 : tie.Need-sub-t14
+sub-t14 c = search needs
 
-is-later-requires : tie.Need-is-later-requires
-is-later-requires c κs = search needs
+meet-requires : tie.Need-meet-requires
+meet-requires c κs = search needs
 
 both-requires : tie.Need-both-requires
 both-requires c κs = search needs
@@ -34,16 +33,17 @@ both-requires-4 : tie.Need-both-requires-4
 both-requires-4 c κs = search needs
 
 returns-2 : tie.Need-returns-2
-returns-2 c = related-told _ _ _ _ _ _ _ _ _ _ _ (c .before .before .before .before .before .before .if1 .left) (c .before .before .before .before .before .is-earlier .ensures) (c .before .before .before .before .is-later .ensures)
-    (c .before .before .before .both .ensures) (c .before .before .both2 .ensures) (c .before .both3 .ensures) (c .both4 .ensures)
+returns-2 c = let b = c .before .before .before .before in let m = b .before .before .before in
+    related-told _ _ _ _ _ _ _ _ _ _ (m .before .if1 .left) (m .meet .ensures) (b .both .ensures)
+    (c .before .before .before .both2 .ensures) (c .before .before .both3 .ensures) (c .both4 .ensures)
 
 pub relate-at-spec : {M : Type 1} → statement M
 relate-at-spec =
     tie.close
     (tie.spec
     returns
-    is-earlier-requires
-    is-later-requires
+    sub-t14
+    meet-requires
     both-requires
     both-requires-2
     both-requires-3

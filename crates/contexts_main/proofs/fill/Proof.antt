@@ -1,16 +1,14 @@
--- The loop counts to 18, and the table has 0 at place 0.
-use mathlib.Core.Path.{_≡_}
+-- The loop counts to 18.
 use Prim.Native.Nat.{_-_, _≤_}
-use lib.ListN.{getD}
 use borrow.Author.Needs.{needs}
 use Rattle.contexts_main.proofs.fill.Statement.{statement}
 use Rattle.contexts_main.proofs.fill.Tie as tie
 
 abbrev Inv-loop : tie.InvT-loop
-Inv-loop list₀ ticks₀ n₀ i₀ t10 t11 list ticks n i = (i ≤ 18) × (getD ticks 0 0 ≡ 0)
+Inv-loop list₀ n₀ i₀ t10 t11 list n i = i ≤ 18
 
 abbrev μ-loop : tie.MeasureT-loop
-μ-loop list₀ ticks₀ n₀ i₀ t10 t11 list ticks n i = 18 - i
+μ-loop list₀ n₀ i₀ t10 t11 list n i = 18 - i
 
 loop-holds : tie.Need-loop-holds Inv-loop μ-loop
 loop-holds c = search needs

@@ -1,17 +1,24 @@
 -- The loop counts the places.
+use Rattle.occurrences.proofs.Packed.{stands-within}
+use Rattle.occurrences.proofs.Rows.{holds-within}
+use native.Mathlib.Omega.{arith}
 use Prim.Native.Nat.{_-_, _≤_}
 use borrow.Author.Needs.{needs}
 use Rattle.contexts_main.proofs.write_each.Statement.{statement}
 use Rattle.contexts_main.proofs.write_each.Tie as tie
+use Rattle.contexts_main.proofs.write_each.Reads as reads
+use Rattle.contexts_main.proofs.write_each.Lts as lts
+use Rattle.contexts_main.proofs.write_combined.Reads as write-combined-reads
+use Rattle.waiting_lists.proofs.count_in.Reads as count-in-reads
 
 abbrev Inv-loop : tie.InvT-loop
-Inv-loop list waiting taken o ticks n i₀ i = (i ≤ n) × (n ≤ 16)
+Inv-loop list waiting taken o ticks globals n i₀ i = i ≤ n
 
 abbrev μ-loop : tie.MeasureT-loop
-μ-loop list waiting taken o ticks n i₀ i = n - i
+μ-loop list waiting taken o ticks globals n i₀ i = n - i
 
-count-requires : tie.Need-count-requires Inv-loop μ-loop
-count-requires c κs = search needs
+count-in-requires : tie.Need-count-in-requires Inv-loop μ-loop
+count-in-requires c κs = search needs
 
 loop-holds : tie.Need-loop-holds Inv-loop μ-loop
 loop-holds c = search needs
@@ -26,7 +33,12 @@ index-1-write-combined : tie.Need-index-1-write-combined Inv-loop μ-loop
 index-1-write-combined c = search needs
 
 write-combined-requires : tie.Need-write-combined-requires Inv-loop μ-loop
-write-combined-requires c κs = search needs
+write-combined-requires c κs =
+    let in-loop = c .before .before in
+    let q = in-loop .before .before in
+    let s = q .before .before .before in
+    let (t, l, x, h, p) = s .pre in
+    (holds-within t (s .args .list .now) (s .args .waiting) l h _ (omega (arith, q .count-in .ensures .0, in-loop .loop-test .taken)), stands-within t _ x p)
 
 add-i : tie.Need-add-i Inv-loop μ-loop
 add-i c = search needs
@@ -46,7 +58,7 @@ write-each-spec =
     (tie.spec
     Inv-loop
     μ-loop
-    count-requires
+    count-in-requires
     loop-holds
     is-marked-requires
     mul-write-combined

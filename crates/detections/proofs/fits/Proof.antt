@@ -12,11 +12,11 @@ use Rattle.detections.proofs.fits.Tie as tie
 
 returns : tie.Need-returns
 returns c =
-    let a = c .before .args in
+    let a = c .before .before .args in
     λ loggers node. sym (le-leb _ (a .left) (omega (arith, finding-most loggers node (occurrenceOf (now (a .ticks)) (now (a .o))), c .if1 .taken)))
 
 timestamp-count-requires : tie.Need-timestamp-count-requires
-timestamp-count-requires c κs = search needs
+timestamp-count-requires c κs = c .before .before .pre
 
 event-count-requires : tie.Need-event-count-requires
 event-count-requires c κs = search needs
@@ -28,7 +28,7 @@ returns-2 : tie.Need-returns-2
 returns-2 c =
     let events = c .before in
     let timestamps = events .before in
-    let a = timestamps .before .before .args in
+    let a = timestamps .before .before .before .args in
     λ loggers node.
     ap (λ n. leb n (a .left))
     (finding-size loggers node (occurrenceOf (now (a .ticks)) (now (a .o))) (timestamps .timestamp-count .ensures .0) (events .event-count .ensures .0 (now (a .ticks))) (c .size .ensures))

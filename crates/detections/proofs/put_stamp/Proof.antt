@@ -13,20 +13,20 @@ use Rattle.detections.proofs.put_stamp.Tie as tie
 mul-if1 : tie.Need-mul-if1
 mul-if1 c = search needs
 
-element-copy-out-if1 : tie.Need-element-copy-out-if1
-element-copy-out-if1 c = search needs
+shared-slice-read-if1 : tie.Need-shared-slice-read-if1
+shared-slice-read-if1 c = search needs
 
 put-u16-requires : tie.Need-put-u16-requires
 put-u16-requires c κs =
     let t = c .before in
-    let a = t .before .before .before .args in
+    let a = t .before .before .before .before .args in
     omega (arith, length-stamp (a .logger) (getD (now (a .ticks)) (a .event) 0) (t .if1 .taken))
 
 mul-put-u64 : tie.Need-mul-put-u64
 mul-put-u64 c = search needs
 
-element-copy-out-put-u64 : tie.Need-element-copy-out-put-u64
-element-copy-out-put-u64 c = search needs
+shared-slice-read-put-u64 : tie.Need-shared-slice-read-put-u64
+shared-slice-read-put-u64 c = search needs
 
 sub-put-u64 : tie.Need-sub-put-u64
 sub-put-u64 c = search needs
@@ -35,7 +35,7 @@ put-u64-requires : tie.Need-put-u64-requires
 unfolding bigEndian
 put-u64-requires c κs =
     let t = c .before .before .before .before .before .before in
-    let a = t .before .before .before .args in
+    let a = t .before .before .before .before .args in
     omega (arith, length-stamp (a .logger) (getD (now (a .ticks)) (a .event) 0) (t .if1 .taken))
 
 same-length : tie.Need-same-length
@@ -46,7 +46,7 @@ returns c =
     let w2 = c .before .before in
     let w1 = w2 .before .before .before .before .before in
     let t = w1 .before .before in
-    let s = t .before .before .before in
+    let s = t .before .before .before .before in
     let a = s .args in
     let in-out : a .at ≤ length (now (a .out)) = omega (arith, s .pre .1) in
     rw (stamp-yes (a .logger) (getD (now (a .ticks)) (a .event) 0) (t .if1 .taken)) (wrote-then in-out (w1 .put-u16 .ensures) (w2 .put-u64 .ensures))
@@ -59,10 +59,10 @@ put-stamp-spec =
     tie.close
     (tie.spec
     mul-if1
-    element-copy-out-if1
+    shared-slice-read-if1
     put-u16-requires
     mul-put-u64
-    element-copy-out-put-u64
+    shared-slice-read-put-u64
     sub-put-u64
     put-u64-requires
     same-length

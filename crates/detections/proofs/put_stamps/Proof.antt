@@ -10,8 +10,8 @@ element-copy-out-put-named c = search needs
 
 put-named-requires : tie.Need-put-named-requires
 put-named-requires c κs =
-    let s = c .before .before .before in
-    (s .pre .0, rw (named-start (now (s .args .ticks)) (now (s .args .loggers)) (now (s .args .o))) (s .pre .1))
+    let s = c .before .before .before .before in
+    (s .pre .0, s .pre .1, rw (named-start (now (s .args .ticks)) (now (s .args .loggers)) (now (s .args .o))) (s .pre .2))
 
 same-length : tie.Need-same-length
 same-length c = search needs
@@ -19,7 +19,7 @@ same-length c = search needs
 returns : tie.Need-returns
 returns c =
     let put = c .before .before in
-    let s = put .before .before .before .before in
+    let s = put .before .before .before .before .before in
     rw (named-start (now (s .args .ticks)) (now (s .args .loggers)) (now (s .args .o))) at (put .put-named .ensures)
 
 pub put-stamps-spec : {M : Type 1} → statement M

@@ -19,10 +19,10 @@ abbrev μ-loop : tie.MeasureT-loop
 μ-loop o ticks n₀ k₀ n k = 8 - k
 
 loop-holds : tie.Need-loop-holds Inv-loop μ-loop
-loop-holds c = (search needs, search needs, omega (arith, count-start (wordsOf (now (c .args .ticks)) (now (c .args .o)))))
+loop-holds c = let a = c .before .args in (search needs, search needs, omega (arith, count-start (wordsOf (now (a .ticks)) (now (a .o)))))
 
 word-at-requires : tie.Need-word-at-requires Inv-loop μ-loop
-word-at-requires c κs = search needs
+word-at-requires c κs = (search needs, c .before .before .before .pre (c .before .loop .k) (search needs))
 
 one-if-requires : tie.Need-one-if-requires Inv-loop μ-loop
 one-if-requires c κs = search needs
@@ -39,14 +39,14 @@ loop-less c = search needs
 loop-again : tie.Need-loop-again Inv-loop μ-loop
 loop-again c =
     let a = c .before .before .before in
-    let s = a .before .args in
+    let s = a .before .before .args in
     let turn = count-turn (wordsOf (now (s .ticks)) (now (s .o))) (a .loop .k) _ (search needs) (c .before .word-at .ensures) in
     (search needs, search needs, omega (arith, turn, c .one-if .ensures .0, a .loop .inv .2))
 
 returns : tie.Need-returns Inv-loop μ-loop
 returns c =
     let a = c .before in
-    let s = a .before .args in
+    let s = a .before .before .args in
     (omega (arith, count-end (wordsOf (now (s .ticks)) (now (s .o))) (a .loop .k) (search needs), a .loop .inv .2), search needs)
 
 pub timestamp-count-spec : {M : Type 1} → statement M

@@ -1,17 +1,16 @@
 -- One of four ways.
-use mathlib.Core.Path.{_≡_, sym, ap, _∙_}
-use Prim.Native.Nat.{_-_, _<_}
+use mathlib.Core.Path.{_≡_, sym, _∙_}
+use Prim.Native.Nat.{_<_}
 use native.Mathlib.Omega.{arith}
 use denote.Ref.{now}
-use lib.ListN.{length, take}
-use lib.Seq.{length-take-le}
+use lib.ListN.{length}
 use Rattle.detections.specs.Views.{findingOf}
+use Rattle.detections.specs.Writing.{Wrote}
 use Rattle.detections.proofs.Sizes.{beyond-finding}
-use Rattle.detections.proofs.Writing.{beyond-none, wrote-prefix}
+use Rattle.detections.proofs.Writing.{beyond-none}
 use Rattle.occurrences.specs.Packed.{occurrenceOf}
-use Rattle.occurrences.proofs.Packed.{held-more, length-held}
-use Rattle.emissions.specs.Emissions.{emitOf}
-use Rattle.emissions.proofs.Emitting.{emit-stopped, emit-ninth, emit-no-room, emit-go, has-room, no-room}
+use Rattle.emissions.specs.Emissions.{bytesOf}
+use Rattle.emissions.proofs.Emitting.{emits-stopped, emits-ninth, emits-no-room, emits-go, has-room, no-room}
 use borrow.Author.Needs.{needs}
 use Rattle.emissions.proofs.emit_one.Statement.{statement}
 use Rattle.emissions.proofs.emit_one.Tie as tie
@@ -22,8 +21,8 @@ is-reached-requires c κs = search needs
 returns : tie.Need-returns
 returns c =
     let told = c .before in
-    let start = told .before .before in
-    (emit-stopped _ _ _ _ _ (sym (told .is-reached .ensures) ∙ c .if1 .taken), beyond-none (start .pre .1) (start .pre .2))
+    let start = told .before .before .before in
+    ((λ globals t s x h o. emits-stopped t _ _ h o (sym (told .is-reached .ensures) ∙ c .if1 .taken)), beyond-none (start .pre .2) (start .pre .3))
 
 stopped-requires : tie.Need-stopped-requires
 stopped-requires c κs = search needs
@@ -33,13 +32,11 @@ returns-2 c =
     let full = c .before in
     let go = full .before .before .before in
     let told = go .before in
-    let start = told .before .before in
-    let row = now (start .args .made) in
-    let eight : length row ≡ 8 = search needs in
-    let many = length-held (now (start .args .ticks)) row (start .args .e .made) in
-    let r = c .stopped .ensures in (
-      ap (λ x. emitOf (now (start .args .ticks)) x row (now (start .args .out))) r ∙ emit-ninth _ _ _ _ _ (sym (told .is-reached .ensures) ∙ go .if1 .left) (omega (arith, many, eight, full .if2 .taken)),
-      rw r (beyond-none (start .pre .1) (start .pre .2)),
+    let start = told .before .before .before in
+    let eight : length (now (start .args .made)) ≡ 8 = search needs in
+    rw (c .stopped .ensures) (
+      (λ globals t s x h o. emits-ninth t _ _ h o (sym (told .is-reached .ensures) ∙ go .if1 .left) eight (omega (arith, eight, full .if2 .taken))),
+      beyond-none (start .pre .2) (start .pre .3),
     )
 
 sub-left : tie.Need-sub-left
@@ -58,23 +55,23 @@ returns-3 c =
     let few = fit .before in
     let go = few .before .before .before in
     let told = go .before in
-    let start = told .before .before in
-    let size = no-room (now (start .args .loggers)) (start .args .place) (occurrenceOf (now (start .args .ticks)) (now (start .args .o))) (length (now (start .args .out)) - start .args .e .at) (fit .fits2 .ensures) (full .if3 .taken) in
-    let l : length (take (start .args .e .at) (now (start .args .out))) ≡ start .args .e .at = length-take-le _ _ (start .pre .1) in
-    let many = length-held (now (start .args .ticks)) (now (start .args .made)) (start .args .e .made) in
-    let r = c .stopped2 .ensures in (
-      ap (λ x. emitOf (now (start .args .ticks)) x (now (start .args .made)) (now (start .args .out))) r
-          ∙ emit-no-room _ _ _ _ _ (sym (told .is-reached .ensures) ∙ go .if1 .left) (omega (arith, many, few .if2 .left)) (omega (arith, size, l, start .pre .1)),
-      rw r (beyond-none (start .pre .1) (start .pre .2)),
+    let start = told .before .before .before in
+    let a = start .args in
+    let size = no-room _ _ _ (start .pre .2) (fit .fits2 .ensures (now (a .loggers)) (a .place)) (full .if3 .taken) in
+    let eight : length (now (a .made)) ≡ 8 = search needs in
+    let below : a .e .made < 8 = omega (arith, eight, few .if2 .left) in
+    rw (c .stopped2 .ensures) (
+      (λ globals t s x h o. emits-no-room t _ _ h o (sym (told .is-reached .ensures) ∙ go .if1 .left) eight below (start .pre .2) size),
+      beyond-none (start .pre .2) (start .pre .3),
     )
 
 write-requires : tie.Need-write-requires
 write-requires c κs =
     let room = c .before in
     let fit = room .before in
-    let start = fit .before .before .before .before .before .before .before in
-    let size = has-room (now (start .args .loggers)) (start .args .place) (occurrenceOf (now (start .args .ticks)) (now (start .args .o))) (length (now (start .args .out)) - start .args .e .at) (fit .fits2 .ensures) (room .if3 .left) in
-    (start .pre .0, omega (arith, size, start .pre .1))
+    let start = fit .before .before .before .before .before .before .before .before in
+    let a = start .args in
+    (start .pre .0, start .pre .1, has-room _ _ _ (start .pre .2) (fit .fits2 .ensures (now (a .loggers)) (a .place)) (room .if3 .left))
 
 mul-t17 : tie.Need-mul-t17
 mul-t17 c = search needs
@@ -102,19 +99,16 @@ returns-4 c =
     let few = fit .before in
     let go = few .before .before .before in
     let told = go .before in
-    let start = told .before .before in
-    let ticks = now (start .args .ticks) in
-    let o = occurrenceOf ticks (now (start .args .o)) in
-    let size = has-room (now (start .args .loggers)) (start .args .place) o (length (now (start .args .out)) - start .args .e .at) (fit .fits2 .ensures) (room .if3 .left) in
-    let l : length (take (start .args .e .at) (now (start .args .out))) ≡ start .args .e .at = length-take-le _ _ (start .pre .1) in
-    let row = now (start .args .made) in
-    let n = start .args .e .made in
-    let many = length-held ticks row n in
-    let eight : length row ≡ 8 = search needs in
-    let in-row : n < length row = omega (arith, eight, few .if2 .left) in
-    let w = write .write .ensures in (
-      emit-go _ _ _ _ _ _ _ _ (sym (told .is-reached .ensures) ∙ go .if1 .left) (omega (arith, many, few .if2 .left)) (omega (arith, size, l, start .pre .1)) (held-more ticks row n (now (start .args .o)) in-row) (wrote-prefix (start .pre .1) w) (c .number-of .ensures),
-      beyond-finding (findingOf (now (start .args .loggers)) (start .args .place) (o .latest) (o .events)) (omega (arith, size, start .pre .1)) (start .pre .2) w,
+    let start = told .before .before .before in
+    let a = start .args in
+    let size = has-room _ _ _ (start .pre .2) (fit .fits2 .ensures (now (a .loggers)) (a .place)) (room .if3 .left) in
+    let eight : length (now (a .made)) ≡ 8 = search needs in
+    let below : a .e .made < 8 = omega (arith, eight, few .if2 .left) in
+    let found = occurrenceOf (now (a .ticks)) (now (a .o)) in
+    let bytes = bytesOf (now (a .loggers)) (a .place) found in
+    let w : Wrote (now (a .out)) (a .e .at) bytes (write .write .result) (write .write .last .0) = write .write .ensures in (
+      (λ globals t s x h o. emits-go t _ _ h o (sym (told .is-reached .ensures) ∙ go .if1 .left) eight below (start .pre .2) size (c .number-of .ensures) w),
+      beyond-finding (findingOf (now (a .loggers)) (a .place) (found .latest) (found .events)) size (start .pre .3) w,
     )
 
 pub emit-one-spec : {M : Type 1} → statement M

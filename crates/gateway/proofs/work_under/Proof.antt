@@ -1,35 +1,30 @@
 -- Turned back, or the run.
-use mathlib.Core.Bool.{true}
-use mathlib.Core.Path.{_≡_, refl, sym, ap, _∙_}
-use borrow.Author.Tests.{eqb-true, not-true, not-false}
-use native.Mathlib.Omega.{arith}
+use Rattle.gateway.proofs.Working.{both-accepted, noted-themselves, passage-refused, plan-refused, ran-noted}
+use Rattle.passages.specs.Faults.{numberOf}
+use Rattle.plans.specs.Layout.{planClocks}
+use Rattle.plans.specs.Views.{answerOf}
+use Rattle.working.proofs.Answers.{answers-same}
+use Rattle.working.specs.Working.{turnedBack}
+use borrow.Author.Tests.{eqb-true, not-false, not-true}
 use lib.Dec.{eqb}
 use lib.ListN.{length-take}
 use lib.Seq.{length-take-le}
-use Rattle.passages.specs.Faults.{numberOf}
-use Rattle.plans.specs.Reader.{PlanAnswer}
-use Rattle.plans.specs.Views.{answerOf}
-use Rattle.working.proofs.Answers.{answers-same}
-use Rattle.gateway.proofs.Working.{both-accepted, noted-themselves, passage-refused, plan-refused, ran-noted}
-use Rattle.working.specs.Working.{turnedBack}
+use mathlib.Core.Bool.{true}
+use mathlib.Core.Path.{_∙_, _≡_, ap, refl, sym}
+use native.Mathlib.Omega.{arith}
 use borrow.Author.Needs.{needs}
 use Rattle.gateway.proofs.work_under.Statement.{statement}
 use Rattle.gateway.proofs.work_under.Tie as tie
-
--- what reading the plan answered
-abbrev answer-at : tie.Start → PlanAnswer
-answer-at s = answerOf (s .args .read) (s .args .loggers .now) (s .args .kinds .now) (s .args .nodes .now)
-
-abbrev start-of : tie.Else1 → tie.Start
-start-of c = c .before .before .before .before
-
--- the plan has no fault
-plan-fine : (c : tie.Else1) → eqb (answer-at (start-of c) .number) 0 ≡ true
-plan-fine c = sym (c .before .is-none .ensures) ∙ not-false _ (c .if1 .left)
-
--- nor has the passage
-passage-fine : (c : tie.Else2) → eqb (numberOf (c .before .before .check-passage .result .fault)) 0 ≡ true
-passage-fine c = sym (c .before .is-none2 .ensures) ∙ not-false _ (c .if2 .left)
+use Rattle.gateway.proofs.work_under.Reads as reads
+use Rattle.gateway.proofs.work_under.Lts as lts
+use Rattle.detector.proofs.run_in.Reads as run-in-reads
+use Rattle.gateway.proofs.ended.Reads as ended-reads
+use Rattle.gateway.proofs.turned_back.Reads as turned-back-reads
+use Rattle.passages.proofs.PassageFault.is_none.Reads as PassageFault-is-none-reads
+use Rattle.passages.proofs.PassageFault.number.Reads as PassageFault-number-reads
+use Rattle.passages.proofs.check_passage.Reads as check-passage-reads
+use Rattle.plans.proofs.PlanFault.is_none.Reads as PlanFault-is-none-reads
+use Rattle.plans.proofs.PlanFault.number.Reads as PlanFault-number-reads
 
 is-none-requires : tie.Need-is-none-requires
 is-none-requires c κs = search needs
@@ -42,27 +37,32 @@ turned-back-requires c κs = search needs
 
 returns : tie.Need-returns
 returns c =
-    let t = c .before .before in
-    let start = t .before .before .before .before in
+    let s = c .before .before .before .before .before .before .before .before in
+    let a = answerOf (s .args .read) (s .args .loggers .now) (s .args .kinds .now) (s .args .nodes .now) in
     answers-same _ _ _ _ _
-    (plan-refused _ _ (answer-at start) (sym (t .before .is-none .ensures) ∙ not-true _ (t .if1 .taken))
-    ∙ ap (λ n. turnedBack n (start .args .read .place)) (sym (c .before .number .ensures)))
+    (plan-refused _ _ a (sym (c .before .before .before .is-none .ensures) ∙ not-true _ (c .before .before .if1 .taken)) ∙ ap (λ n. turnedBack n (s .args .read .place)) (sym (c .before .number .ensures)))
     (c .turned-back .ensures _)
 
 slice-aggregate-check-passage : tie.Need-slice-aggregate-check-passage
-slice-aggregate-check-passage c = sym (length-take-le _ _ (omega (arith, start-of (c .before .before .before) .pre .0 .kinds-most)))
+slice-aggregate-check-passage c = sym (length-take-le _ _ (omega (arith, c .before .before .before .before .before .before .before .before .before .pre .0 .kinds-most)))
 
 slice-aggregate-check-passage-2 : tie.Need-slice-aggregate-check-passage-2
-slice-aggregate-check-passage-2 c = sym (length-take-le _ _ (omega (arith, start-of (c .before .before .before .before) .pre .0 .loggers-most)))
+slice-aggregate-check-passage-2 c = sym (length-take-le _ _ (omega (arith, c .before .before .before .before .before .before .before .before .before .before .pre .0 .loggers-most)))
 
 check-passage-requires : tie.Need-check-passage-requires
 check-passage-requires c κs =
-    let fine = c .before .before .before .before .before .before .before in
-    let start = start-of fine in
-    let a = start .args in
-    let held = start .pre .0 in
-    let rising = held .rising (eqb-true _ _ (plan-fine fine)) in
-    (omega (arith, length-take (a .read .«kind_count») (a .kinds .now), held .kinds-most), omega (arith, length-take (a .read .«logger_count») (a .loggers .now), held .loggers-most), rising .0, rising .1)
+    let s = c .before .before .before .before .before .before .before .before .before .before .before .before .before .before in
+    let a = answerOf (s .args .read) (s .args .loggers .now) (s .args .kinds .now) (s .args .nodes .now) in
+    let fine : eqb (a .number) 0 ≡ true = sym (c .before .before .before .before .before .before .before .before .before .is-none .ensures) ∙ not-false _ (c .before .before .before .before .before .before .before .before .if1 .left) in
+    let known = s .pre .0 in
+    let rising = known .rising (eqb-true _ _ fine) in (
+      omega (arith, length-take (s .args .read .«kind_count») (s .args .kinds .now), known .kinds-most),
+      omega (arith, length-take (s .args .read .«logger_count») (s .args .loggers .now), known .loggers-most),
+      rising .0,
+      rising .1,
+      s .pre .1,
+      s .pre .2,
+    )
 
 is-none-requires-2 : tie.Need-is-none-requires-2
 is-none-requires-2 c κs = search needs
@@ -73,34 +73,35 @@ number-requires-2 c κs = search needs
 turned-back-requires-2 : tie.Need-turned-back-requires-2
 turned-back-requires-2 c κs = search needs
 
-returns-2 : tie.Need-returns-2
-returns-2 c =
-    let t = c .before .before in
-    let q = t .before .before in
-    let fine = q .before .before .before .before .before .before .before .before in
-    let a = answer-at (start-of fine) in
-    answers-same _ _ _ _ _
-    (passage-refused _ _ a (plan-fine fine) (q .check-passage .result) (q .check-passage .ensures (a .plan) refl refl .0)
-    (sym (t .before .is-none2 .ensures) ∙ not-true _ (t .if2 .taken))
-    ∙ ap (λ n. turnedBack n (q .check-passage .result .place)) (sym (c .before .number2 .ensures)))
-    (c .turned-back2 .ensures _)
-
-run-in-requires : tie.Need-run-in-requires
-run-in-requires c κs =
-    let e = c .before .before .before .before .before .before .before in
-    let q = e .before .before in
-    let start = start-of (q .before .before .before .before .before .before .before .before) in
-    let a = answer-at start in
-    (start .pre .1, start .pre .2, start .pre .3, noted-themselves _ _ _ _ _ (q .check-passage .ensures (a .plan) refl refl .1 (eqb-true _ _ (passage-fine e))))
-
-ended-requires : tie.Need-ended-requires
-ended-requires c κs = search needs
-
 same-length : tie.Need-same-length
 same-length c = search needs
 
 same-length-2 : tie.Need-same-length-2
 same-length-2 c = search needs
+
+returns-2 : tie.Need-returns-2
+returns-2 c =
+    let s = c .before .before .before .before .before .before .before .before .before .before .before .before .before .before .before .before .before .before .before .before .before .before .before in
+    let a = answerOf (s .args .read) (s .args .loggers .now) (s .args .kinds .now) (s .args .nodes .now) in
+    let fine : eqb (a .number) 0 ≡ true = sym (c .before .before .before .before .before .before .before .before .before .before .before .before .before .before .before .before .before .before .is-none .ensures) ∙ not-false _ (c .before .before .before .before .before .before .before .before .before .before .before .before .before .before .before .before .before .if1 .left) in
+    let q = c .before .before .before .before .before .before .before .before .check-passage in
+    let checked = q .ensures (a .plan) refl refl refl in
+    answers-same _ _ _ _ _
+    (passage-refused _ _ a fine (q .result) (checked .0) (sym (c .before .before .before .is-none2 .ensures) ∙ not-true _ (c .before .before .if2 .taken))
+    ∙ ap (λ n. turnedBack n (q .result .place)) (sym (c .before .number2 .ensures)))
+    (c .turned-back2 .ensures _)
+
+run-in-requires : tie.Need-run-in-requires
+run-in-requires c κs =
+    let s = c .before .before .before .before .before .before .before .before .before .before .before .before .before .before .before .before .before .before .before .before .before .before .before .before .before .before .before .before .before in
+    let a = answerOf (s .args .read) (s .args .loggers .now) (s .args .kinds .now) (s .args .nodes .now) in
+    let q = c .before .before .before .before .before .before .before .before .before .before .before .before .before .before .check-passage in
+    let checked = q .ensures (a .plan) refl refl refl in
+    let passed : numberOf (q .result .fault) ≡ 0 = eqb-true _ _ (sym (c .before .before .before .before .before .before .before .before .before .is-none2 .ensures) ∙ not-false _ (c .before .before .before .before .before .before .before .before .if2 .left)) in
+    (s .pre .3, s .pre .4, s .pre .5, (planClocks (a .plan), noted-themselves _ _ _ _ _ _ _ (checked .1 passed)))
+
+ended-requires : tie.Need-ended-requires
+ended-requires c κs = search needs
 
 same-length-3 : tie.Need-same-length-3
 same-length-3 c = search needs
@@ -108,17 +109,29 @@ same-length-3 c = search needs
 same-length-4 : tie.Need-same-length-4
 same-length-4 c = search needs
 
+same-length-5 : tie.Need-same-length-5
+same-length-5 c = search needs
+
+same-length-6 : tie.Need-same-length-6
+same-length-6 c = search needs
+
+same-length-7 : tie.Need-same-length-7
+same-length-7 c = search needs
+
+same-length-8 : tie.Need-same-length-8
+same-length-8 c = search needs
+
 returns-3 : tie.Need-returns-3
 returns-3 c =
-    let run = c .before .before .before .before .before .before in
-    let e = run .before .before .before .before .before .before .before .before in
-    let q = e .before .before in
-    let fine = q .before .before .before .before .before .before .before .before in
-    let a = answer-at (start-of fine) in
-    let checked = q .check-passage .ensures (a .plan) refl refl in
+    let s = c .before .before .before .before .before .before .before .before .before .before .before .before .before .before .before .before .before .before .before .before .before .before .before .before .before .before .before .before .before .before .before .before .before .before .before .before in
+    let a = answerOf (s .args .read) (s .args .loggers .now) (s .args .kinds .now) (s .args .nodes .now) in
+    let fine : eqb (a .number) 0 ≡ true = sym (c .before .before .before .before .before .before .before .before .before .before .before .before .before .before .before .before .before .before .before .before .before .before .before .before .before .before .before .before .before .before .before .is-none .ensures) ∙ not-false _ (c .before .before .before .before .before .before .before .before .before .before .before .before .before .before .before .before .before .before .before .before .before .before .before .before .before .before .before .before .before .before .if1 .left) in
+    let q = c .before .before .before .before .before .before .before .before .before .before .before .before .before .before .before .before .before .before .before .before .before .check-passage in
+    let checked = q .ensures (a .plan) refl refl refl in
+    let passed : numberOf (q .result .fault) ≡ 0 = eqb-true _ _ (sym (c .before .before .before .before .before .before .before .before .before .before .before .before .before .before .before .before .is-none2 .ensures) ∙ not-false _ (c .before .before .before .before .before .before .before .before .before .before .before .before .before .before .before .if2 .left)) in
     answers-same _ _ _ _ _
-    (both-accepted _ _ a (plan-fine fine) (q .check-passage .result) (checked .0) (passage-fine e))
-    (c .ended .ensures _ _ _ (ran-noted _ _ _ _ _ (checked .1 (eqb-true _ _ (passage-fine e))) (a .plan) _ _ _ (run .run-in .ensures (a .plan) refl refl refl)))
+    (both-accepted _ _ a fine (q .result) (checked .0) (rw passed))
+    (c .ended .ensures _ _ _ (ran-noted _ _ _ _ _ _ _ (checked .1 passed) (a .plan) _ _ _ (c .before .before .before .before .before .before .run-in .ensures (a .plan) refl refl (noted-themselves _ _ _ _ _ _ _ (checked .1 passed)))))
 
 pub work-under-spec : {M : Type 1} → statement M
 work-under-spec =
@@ -134,11 +147,15 @@ work-under-spec =
     is-none-requires-2
     number-requires-2
     turned-back-requires-2
+    same-length
+    same-length-2
     returns-2
     run-in-requires
     ended-requires
-    same-length
-    same-length-2
     same-length-3
     same-length-4
+    same-length-5
+    same-length-6
+    same-length-7
+    same-length-8
     returns-3)

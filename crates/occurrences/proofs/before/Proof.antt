@@ -1,45 +1,60 @@
--- Each word of the second at a place before k is later than one of the first.
-use mathlib.Core.Bool.{true}
-use mathlib.Core.Path.{_≡_, sym, ap₂, _∙_}
-use Prim.Native.Nat.{ℕ, _≤_, _<_, _-_}
-use native.Mathlib.Omega.{arith}
-use borrow.Author.Tests.{not-false, not-true}
-use Rattle.occurrences.specs.Packed.{wordsOf}
-use Rattle.occurrences.specs.Steps.{laterOf}
-use Rattle.occurrences.proofs.Befores.{all-later, later-turn, one-not-later}
-use Rattle.occurrences.proofs.Words.{wordAt}
+-- Each stamp of the second at a place before k has one before it.
+use Prim.Native.Nat.{_-_, _<_, _≤_, ℕ}
+use Rattle.occurrences.proofs.Befores.{Both, before-each, before-not, hasAt}
+use Rattle.occurrences.proofs.Steps.{next-place}
 use borrow.Author.Needs.{needs}
+use borrow.Author.Tests.{not-false, not-true}
+use lib.Pow.{low}
+use mathlib.Core.Bool.{true}
+use mathlib.Core.Path.{_∙_, _≡_, sym}
+use native.Mathlib.Omega.{arith}
 use Rattle.occurrences.proofs.before.Statement.{statement}
 use Rattle.occurrences.proofs.before.Tie as tie
+use Rattle.occurrences.proofs.before.Reads as reads
+use Rattle.occurrences.proofs.before.Lts as lts
+use Rattle.occurrences.proofs.event_at.Reads as event-at-reads
+use Rattle.occurrences.proofs.has_before.Reads as has-before-reads
 
 abbrev Inv-loop : tie.InvT-loop
-Inv-loop low a b ticks ratio k₀ k = (k ≤ 8) × ((j : ℕ) → j < k → laterOf ratio low (wordAt (wordsOf ticks a) j) (wordAt (wordsOf ticks b) j) ≡ true)
+Inv-loop low a b ticks globals k₀ k = (k ≤ 8) × ((j : ℕ) → j < k → Both ticks globals b j → hasAt ticks globals a b (low .0) j ≡ true)
 
 abbrev μ-loop : tie.MeasureT-loop
-μ-loop low a b ticks ratio k₀ k = 8 - k
+μ-loop low a b ticks globals k₀ k = 8 - k
 
 loop-holds : tie.Need-loop-holds Inv-loop μ-loop
 loop-holds c = (search needs, λ j l. absurd (omega (arith, l)))
 
-word-at-requires : tie.Need-word-at-requires Inv-loop μ-loop
-word-at-requires c κs = search needs
+element-copy-out-event-at : tie.Need-element-copy-out-event-at Inv-loop μ-loop
+element-copy-out-event-at c = search needs
 
-word-at-requires-2 : tie.Need-word-at-requires-2 Inv-loop μ-loop
-word-at-requires-2 c κs = search needs
+event-at-requires : tie.Need-event-at-requires Inv-loop μ-loop
+event-at-requires c κs = search needs
 
-later-requires : tie.Need-later-requires Inv-loop μ-loop
-later-requires c κs = search needs
+element-copy-out-event-at-2 : tie.Need-element-copy-out-event-at-2 Inv-loop μ-loop
+element-copy-out-event-at-2 c = search needs
+
+event-at-requires-2 : tie.Need-event-at-requires-2 Inv-loop μ-loop
+event-at-requires-2 c κs = search needs
+
+has-before-requires : tie.Need-has-before-requires Inv-loop μ-loop
+has-before-requires c κs =
+    let one = c .before .before in
+    let in-loop = one .before .before in
+    let s = in-loop .before .before .before .before in
+    let k : in-loop .before .loop .k < 8 = in-loop .loop-test .taken in
+    (rw (one .event-at .ensures .0) (s .pre .0 _ k .0), rw (c .event-at2 .ensures .0) (s .pre .1 _ k .0), rw (c .event-at2 .ensures .0) (s .pre .1 _ k .1))
 
 returns : tie.Need-returns Inv-loop μ-loop
 returns c =
-    let at = c .before .before .before .before .before in
-    let s = at .before in
-    let x = wordsOf (s .args .ticks .now) (s .args .a .now) in
-    let y = wordsOf (s .args .ticks .now) (s .args .b .now) in
-    let words : c .before .later .result ≡ laterOf (s .args .ratio) (s .args .low) (wordAt x (at .loop .k)) (wordAt y (at .loop .k)) =
-    c .before .later .ensures ∙ ap₂ (laterOf (s .args .ratio) (s .args .low)) (c .before .before .before .word-at .ensures) (c .before .before .word-at2 .ensures)
+    let h = c .before in
+    let second = h .before in
+    let one = second .before .before in
+    let at = one .before .before .before in
+    let s = at .before .before .before in
+    let e : Both (s .args .ticks .now) (s .args .globals .now) (s .args .b .now) (at .loop .k) → h .has-before .result ≡ hasAt (s .args .ticks .now) (s .args .globals .now) (s .args .a .now) (s .args .b .now) (s .args .low .0) (at .loop .k) =
+    rw (one .event-at .ensures .0, second .event-at2 .ensures .0) at (h .has-before .ensures)
     in
-    sym (one-not-later _ x y _ (s .pre) _ (c .before .before .before .before .loop-test .taken) (sym words ∙ not-true _ (c .if1 .taken)))
+    λ t x y least p q. sym (before-not t x y _ _ p q _ least (at .loop .k) (one .before .before .loop-test .taken) (λ o. sym (e o) ∙ not-true _ (c .if1 .taken)))
 
 add-k : tie.Need-add-k Inv-loop μ-loop
 add-k c = search needs
@@ -49,19 +64,19 @@ loop-less c = search needs
 
 loop-again : tie.Need-loop-again Inv-loop μ-loop
 loop-again c =
-    let at = c .before .before .before .before .before in
-    let s = at .before in
-    let x = wordsOf (s .args .ticks .now) (s .args .a .now) in
-    let y = wordsOf (s .args .ticks .now) (s .args .b .now) in
-    let words : c .before .later .result ≡ laterOf (s .args .ratio) (s .args .low) (wordAt x (at .loop .k)) (wordAt y (at .loop .k)) =
-    c .before .later .ensures ∙ ap₂ (laterOf (s .args .ratio) (s .args .low)) (c .before .before .before .word-at .ensures) (c .before .before .word-at2 .ensures)
+    let h = c .before in
+    let second = h .before in
+    let one = second .before .before in
+    let at = one .before .before .before in
+    let s = at .before .before .before in
+    let e : Both (s .args .ticks .now) (s .args .globals .now) (s .args .b .now) (at .loop .k) → h .has-before .result ≡ hasAt (s .args .ticks .now) (s .args .globals .now) (s .args .a .now) (s .args .b .now) (s .args .low .0) (at .loop .k) =
+    rw (one .event-at .ensures .0, second .event-at2 .ensures .0) at (h .has-before .ensures)
     in
-    (search needs, later-turn _ _ x y _ (sym words ∙ not-false _ (c .if1 .left)) (at .loop .inv .1))
+    (search needs, next-place _ _ (at .loop .inv .1) (λ o. sym (e o) ∙ not-false _ (c .if1 .left)))
 
 returns-2 : tie.Need-returns-2 Inv-loop μ-loop
 returns-2 c =
-    let s = c .before .before in
-    sym (all-later _ _ _ _ (s .pre) (λ j l. c .before .loop .inv .1 j (omega (arith, l, c .loop-test .left))))
+    λ t x y least p q. sym (before-each t x y _ _ p q _ least (λ j l. c .before .loop .inv .1 j (omega (arith, l, c .loop-test .left))))
 
 pub before-spec : {M : Type 1} → statement M
 before-spec =
@@ -70,9 +85,11 @@ before-spec =
     Inv-loop
     μ-loop
     loop-holds
-    word-at-requires
-    word-at-requires-2
-    later-requires
+    element-copy-out-event-at
+    event-at-requires
+    element-copy-out-event-at-2
+    event-at-requires-2
+    has-before-requires
     returns
     add-k
     loop-less

@@ -1,29 +1,39 @@
--- The second's lowest is not above the first's, or far above it.
+-- The second is lower, or clearly higher.
+use Rattle.occurrences.proofs.Befores.{before-higher, before-lower}
+use Rattle.timestamps.specs.Order.{clearlyEarlier}
+use borrow.Author.Tests.{ltb-true}
+use mathlib.Core.Path.{_∙_, sym}
 use native.Mathlib.Omega.{arith}
-use Rattle.occurrences.specs.Packed.{wordsOf}
-use Rattle.occurrences.proofs.Befores.{first-clear, first-not-later}
 use borrow.Author.Needs.{needs}
 use Rattle.occurrences.proofs.decided.Statement.{statement}
 use Rattle.occurrences.proofs.decided.Tie as tie
+use Rattle.occurrences.proofs.decided.Reads as reads
+use Rattle.occurrences.proofs.decided.Lts as lts
+use Rattle.timestamps.proofs.GlobalTick.clearly_earlier.Reads as clearly-earlier-reads
+use Rattle.timestamps.proofs.GlobalTick.earlier.Reads as earlier-reads
 
-wrapping-sub-u64-requires : tie.Need-wrapping-sub-u64-requires
-wrapping-sub-u64-requires c κs = search needs
+earlier-requires : tie.Need-earlier-requires
+earlier-requires c κs = search needs
 
 returns : tie.Need-returns
-returns c ticks a b x y =
-    let t = c .before in
-    ((λ e. first-not-later _ (wordsOf ticks a) (wordsOf ticks b) _ x _ y (omega (arith, t .wrapping-sub-u64 .ensures, c .if1 .taken)) (omega (arith, t .wrapping-sub-u64 .ensures, c .if1 .taken))), λ e. absurd (omega (arith, e)))
+returns c = λ ticks globals a b t x y p q l f. record {
+  no = λ e. before-lower t x y a b p q _ l _ f (ltb-true _ _ (sym (c .before .earlier .ensures) ∙ c .if1 .taken));
+  yes = λ e. absurd (omega (arith, e));
+}
 
-is-far-requires : tie.Need-is-far-requires
-is-far-requires c κs = search needs
+clearly-earlier-requires : tie.Need-clearly-earlier-requires
+clearly-earlier-requires c κs = search needs
 
 returns-2 : tie.Need-returns-2
-returns-2 c ticks a b x y =
-    ((λ e. absurd (omega (arith, e))), λ e. first-clear _ (wordsOf ticks a) (wordsOf ticks b) _ x _ y (c .before .is-far .ensures (c .if2 .taken)))
+unfolding clearlyEarlier
+returns-2 c = λ ticks globals a b t x y p q l f. record {
+  no = λ e. absurd (omega (arith, e));
+  yes = λ e. before-higher t x y a b p q _ l _ f (ltb-true _ _ (sym (c .before .clearly-earlier .ensures) ∙ c .if2 .taken));
+}
 
 returns-3 : tie.Need-returns-3
-returns-3 c ticks a b x y = ((λ e. absurd (omega (arith, e))), λ e. absurd (omega (arith, e)))
+returns-3 c = λ ticks globals a b t x y p q l f. record { no = λ e. absurd (omega (arith, e)); yes = λ e. absurd (omega (arith, e)) }
 
 pub decided-spec : {M : Type 1} → statement M
 decided-spec =
-    tie.close (tie.spec wrapping-sub-u64-requires returns is-far-requires returns-2 returns-3)
+    tie.close (tie.spec earlier-requires returns clearly-earlier-requires returns-2 returns-3)

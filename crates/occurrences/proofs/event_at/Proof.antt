@@ -3,6 +3,8 @@ use Rattle.occurrences.proofs.Bytes.{byte-read}
 use borrow.Author.Needs.{needs}
 use Rattle.occurrences.proofs.event_at.Statement.{statement}
 use Rattle.occurrences.proofs.event_at.Tie as tie
+use Rattle.occurrences.proofs.event_at.Reads as reads
+use Rattle.occurrences.proofs.event_at.Lts as lts
 
 mul-result : tie.Need-mul-result
 mul-result c = search needs

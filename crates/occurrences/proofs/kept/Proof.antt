@@ -1,21 +1,31 @@
 -- By the two cases.
-use mathlib.Core.Path.{sym, _∙_}
-use Rattle.occurrences.proofs.Joins.{kept-large, kept-small}
+use Rattle.occurrences.specs.Steps.{keptOf}
+use Rattle.timestamps.specs.Order.{clearlyEarlier}
+use mathlib.Core.Path.{_∙_, sym}
 use borrow.Author.Needs.{needs}
 use Rattle.occurrences.proofs.kept.Statement.{statement}
 use Rattle.occurrences.proofs.kept.Tie as tie
+use Rattle.occurrences.proofs.kept.Reads as reads
+use Rattle.occurrences.proofs.kept.Lts as lts
+use Rattle.timestamps.proofs.GlobalTick.clearly_earlier.Reads as clearly-earlier-reads
 
-mul-if1 : tie.Need-mul-if1
-mul-if1 c = search needs
+mul-t5 : tie.Need-mul-t5
+mul-t5 c = search needs
 
-element-copy-out-if1 : tie.Need-element-copy-out-if1
-element-copy-out-if1 c = search needs
+shared-slice-read-t7 : tie.Need-shared-slice-read-t7
+shared-slice-read-t7 c = search needs
+
+clearly-earlier-requires : tie.Need-clearly-earlier-requires
+clearly-earlier-requires c κs = search needs
 
 returns : tie.Need-returns
-returns c = (search needs, c .before .before .pre .1 ∙ sym (kept-small _ _ (c .if1 .taken)))
+unfolding keptOf clearlyEarlier
+returns c = rw (sym (c .before .clearly-earlier .ensures) ∙ c .if1 .taken)
 
 returns-2 : tie.Need-returns-2
-returns-2 c = (search needs, sym (kept-large _ _ (c .if1 .left)))
+unfolding keptOf clearlyEarlier
+returns-2 c = rw (sym (c .before .clearly-earlier .ensures) ∙ c .if1 .left)
 
 pub kept-spec : {M : Type 1} → statement M
-kept-spec = tie.close (tie.spec mul-if1 element-copy-out-if1 returns returns-2)
+kept-spec =
+    tie.close (tie.spec mul-t5 shared-slice-read-t7 clearly-earlier-requires returns returns-2)

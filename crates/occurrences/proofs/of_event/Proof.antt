@@ -1,8 +1,12 @@
--- Where its logger has a place, one byte; else none.
-use Rattle.occurrences.proofs.FileEvents.{event-placed, event-without-place}
+-- One byte.
+use Rattle.occurrences.proofs.FileEvents.{event-stands}
 use borrow.Author.Needs.{needs}
 use Rattle.occurrences.proofs.of_event.Statement.{statement}
 use Rattle.occurrences.proofs.of_event.Tie as tie
+use Rattle.occurrences.proofs.of_event.Reads as reads
+use Rattle.occurrences.proofs.of_event.Lts as lts
+use Rattle.event_sets.proofs.EventSet.none.Reads as none-reads
+use Rattle.event_sets.proofs.marked.Reads as marked-reads
 
 none-requires : tie.Need-none-requires
 none-requires c κs = search needs
@@ -29,10 +33,9 @@ array-write-c-3 : tie.Need-array-write-c-3
 array-write-c-3 c = search needs
 
 returns : tie.Need-returns
-returns c = λ ticks tick z t. event-placed (record { logger = c .before .before .before .args .logger; tick = record { 0 = tick } }) _ _ _ (c .before .before .none .ensures) (c .before .marked .ensures) ticks z (c .before .before .before .pre) t (c .if1 .taken)
-
-returns-2 : tie.Need-returns-2
-returns-2 c = λ ticks tick z t. event-without-place (record { logger = c .before .before .before .args .logger; tick = record { 0 = tick } }) _ _ _ (c .before .before .none .ensures) (c .before .marked .ensures) ticks z (c .if1 .left)
+returns c =
+    let s = c .before .before in
+    λ ticks globals t within own. event-stands (s .args .logger) (s .args .number) _ _ (c .before .none .ensures) (c .marked .ensures) (s .pre .0) (s .pre .1) ticks globals t within own
 
 pub of-event-spec : {M : Type 1} → statement M
 of-event-spec =
@@ -46,5 +49,4 @@ of-event-spec =
     mul-c
     shl-c
     array-write-c-3
-    returns
-    returns-2)
+    returns)

@@ -1,10 +1,13 @@
 -- The tick of the event that the byte names.
-use mathlib.Core.Path.{sym, ap, _∙_}
-use lib.ListN.{getD}
 use Rattle.occurrences.proofs.Bytes.{word-of}
+use lib.ListN.{getD}
+use mathlib.Core.Path.{_∙_, ap, sym}
 use borrow.Author.Needs.{needs}
 use Rattle.occurrences.proofs.word_at.Statement.{statement}
 use Rattle.occurrences.proofs.word_at.Tie as tie
+use Rattle.occurrences.proofs.word_at.Reads as reads
+use Rattle.occurrences.proofs.word_at.Lts as lts
+use Rattle.occurrences.proofs.event_at.Reads as event-at-reads
 
 element-copy-out-event-at : tie.Need-element-copy-out-event-at
 element-copy-out-event-at c = search needs
@@ -15,11 +18,14 @@ event-at-requires c κs = search needs
 mul-result : tie.Need-mul-result
 mul-result c = search needs
 
-element-copy-out-result : tie.Need-element-copy-out-result
-element-copy-out-result c = search needs
+shared-slice-read-result : tie.Need-shared-slice-read-result
+shared-slice-read-result c = search needs
 
 returns : tie.Need-returns
-returns c = let start = c .before .before .before in ap (λ n. getD (start .args .ticks .now) n 0) (c .before .event-at .ensures .0) ∙ sym (word-of (start .args .ticks .now) (start .args .o .now) _ (start .pre))
+returns c =
+    let one = c .before in
+    let s = one .before .before .before in
+    ap (λ n. getD (s .args .ticks .now) n 0) (one .event-at .ensures .0) ∙ sym (word-of (s .args .ticks .now) (s .args .o .now) _ (s .pre .0))
 
 pub word-at-spec : {M : Type 1} → statement M
 word-at-spec =
@@ -28,5 +34,5 @@ word-at-spec =
     element-copy-out-event-at
     event-at-requires
     mul-result
-    element-copy-out-result
+    shared-slice-read-result
     returns)

@@ -50,10 +50,10 @@ use denote.Triple.Spec.{Meets, tripleOf}
 use denote.Triple.Table.{entered, cited}
 use denote.Triple.Walked.{says, needs, Stays, stay-ref, stay-none-ref, stay-none-slice, stay-dropped, walkOf, goes-ref, goes-none-ref, goes-none-slice, goes-dropped, Walks, ends-at, walked, walk-meets}
 use denote.Exit.{yes}
-use Rattle.open_calls.specs.Steps.{joinStart, joiningOf, noMarks, foldJoin, joinDone, joinRun}
-use Rattle.open_calls.specs.Answers.{joinAnswer}
-use Rattle.sequences.specs.Choice.{pick as choose}
-use Rattle.open_calls.proofs.Joins.{join-is}
+use Rattle.open_calls.specs.Steps.{Joins, joinStart, joinVerdict, nothingJudged}
+use Rattle.open_calls.specs.Answers.{joinAnswer, refusal}
+use Rattle.timestamps.specs.Order.{clocksOf}
+use Rattle.open_calls.proofs.Joins.{stopped-is}
 use Rattle.timestamps.specs.declared.Timestamp.{Timestamp}
 use Rattle.timestamps.proofs.Timestamp as RTimestamp
 use Rattle.timestamps.proofs.Timestamp.Laws as LTimestamp
@@ -144,27 +144,34 @@ module _ {M : Type 1} (𝓤 : URA M) (H : Heap 𝓤) (A : Atoms 𝓤) (W : Given
   said-1 : (r : JoinStart) → ent 𝓤 (ensured 𝓤 H A c1.ended (c1.clauses 𝓤 H A at-mem run) tt (p1, ((length (p2 .now)), tt)) tt r) (fact 𝓤 (r ≡ joinStart p1 (length (p2 .now))))
   said-1 r = exE 𝓤 _ (λ ws. snd∗ 𝓤 (sem 𝓤 H A (lasts c1.ended tt (p1, ((length (p2 .now)), tt)) ws)) (fact 𝓤 (r ≡ joinStart p1 (length (p2 .now)))))
 
+  -- what `fold_join` and `join_done` say
+  abbrev Joined : JoinStart → Joining → Type 0
+  Joined r-start r = r-start .judged ≡ nothingJudged → Joins (clocksOf p1) (p2 .now) r
+
+  abbrev Answered : Joining → JoinAnswer → Type 0
+  Answered r-a r = (ratio : ℕ) (l : List Timestamp) → refusal (joinVerdict ratio (length l)) ≡ false → Joins (clocksOf ratio) l r-a → r ≡ joinAnswer ratio l
+
   abbrev to-2 : (r-start : JoinStart) → Of-c2 𝓤 H A at-mem run .Ghost
-  to-2 r-start = (((κp2, tt), (qp2, tt), tt, ((r-start .judged), (p2, tt)), ((LL.val RJudged.the-type LJudged.the-laws (r-start .judged)) ∷ [], ((sliceVal (p2 .ptr) (length (p2 .now))) ∷ [], tt))), tt)
+  to-2 r-start = (((κp2, tt), (qp2, tt), tt, ((r-start .judged), (p2, (p1, tt))), ((LL.val RJudged.the-type LJudged.the-laws (r-start .judged)) ∷ [], ((sliceVal (p2 .ptr) (length (p2 .now))) ∷ [], ((vint w64 p1) ∷ [], tt)))), tt)
 
   goes-to-2 : (r-start : JoinStart) → Is RJoinStart.the-row r-start ((LL.val RJoinStart.the-type LJoinStart.the-laws r-start) ∷ []) → ent 𝓤 (⋆ 𝓤 H A (‵ (flft κp2 qp2) ∷ ‵ ((ShrSlice (named 0) κp2 RTimestamp.the-row) .own p2 ((sliceVal (p2 .ptr) (length (p2 .now))) ∷ [])) ∷ [])) (Of-c2 𝓤 H A at-mem run .pre (to-2 r-start))
-  goes-to-2 r-start i-start = qed W (‵ (flft κp2 qp2) ∷ ‵ ((ShrSlice (named 0) κp2 RTimestamp.the-row) .own p2 ((sliceVal (p2 .ptr) (length (p2 .now))) ∷ [])) ∷ []) ∵ nothing ! $ move ! (1 ∷ 0 ∷ []) $ join ! $ nothing ! $ move ! (2 ∷ 0 ∷ []) $ fjoin ! $ owned ! RJudged.the-row (Is RJudged.the-row) (LL.makes RJudged.the-type LJudged.the-plain 𝓤 H A) (r-start .judged) ((LL.val RJudged.the-type LJudged.the-laws (r-start .judged)) ∷ []) (LL.owed RJoinStart.the-type LJoinStart.the-laws r-start _ i-start .1 .1 .0) $ fjoin ! $ move ! (1 ∷ 0 ∷ []) $ join ! $ frame ! $ done !
+  goes-to-2 r-start i-start = qed W (‵ (flft κp2 qp2) ∷ ‵ ((ShrSlice (named 0) κp2 RTimestamp.the-row) .own p2 ((sliceVal (p2 .ptr) (length (p2 .now))) ∷ [])) ∷ []) ∵ nothing ! $ move ! (1 ∷ 0 ∷ []) $ join ! $ nothing ! $ owned ! u64 (Is u64) (uint-makes 𝓤 H A W w64) p1 ((vint w64 p1) ∷ []) gp1 $ fjoin ! $ move ! (2 ∷ 0 ∷ []) $ fjoin ! $ owned ! RJudged.the-row (Is RJudged.the-row) (LL.makes RJudged.the-type LJudged.the-plain 𝓤 H A) (r-start .judged) ((LL.val RJudged.the-type LJudged.the-laws (r-start .judged)) ∷ []) (LL.owed RJoinStart.the-type LJoinStart.the-laws r-start _ i-start .1 .1 .0) $ fjoin ! $ move ! (1 ∷ 0 ∷ []) $ join ! $ frame ! $ done !
 
-  said-2 : (r-start : JoinStart) (r : Joining) → ent 𝓤 (ensured 𝓤 H A c2.ended (c2.clauses 𝓤 H A at-mem run) (κp2, tt) ((r-start .judged), (p2, tt)) tt r) (fact 𝓤 (r ≡ foldJoin 0 (joiningOf (r-start .judged) noMarks) (p2 .now)))
-  said-2 r-start r = exE 𝓤 _ (λ ws. snd∗ 𝓤 (sem 𝓤 H A (lasts c2.ended (κp2, tt) ((r-start .judged), (p2, tt)) ws)) (fact 𝓤 (r ≡ foldJoin 0 (joiningOf (r-start .judged) noMarks) (p2 .now))))
+  said-2 : (r-start : JoinStart) (r : Joining) → ent 𝓤 (ensured 𝓤 H A c2.ended (c2.clauses 𝓤 H A at-mem run) (κp2, tt) ((r-start .judged), (p2, (p1, tt))) tt r) (fact 𝓤 (Joined r-start r))
+  said-2 r-start r = exE 𝓤 _ (λ ws. snd∗ 𝓤 (sem 𝓤 H A (lasts c2.ended (κp2, tt) ((r-start .judged), (p2, (p1, tt))) ws)) (fact 𝓤 (Joined r-start r)))
 
   abbrev to-3 : (r-a : Joining) → Of-c3 𝓤 H A at-mem run .Ghost
-  to-3 r-a = ((tt, tt, tt, (r-a, (p1, tt)), ((LL.val RJoining.the-type LJoining.the-laws r-a) ∷ [], ((vint w64 p1) ∷ [], tt))), tt)
+  to-3 r-a = ((tt, tt, tt, (r-a, tt), ((LL.val RJoining.the-type LJoining.the-laws r-a) ∷ [], tt)), tt)
 
   goes-to-3 : (r-a : Joining) → Is RJoining.the-row r-a ((LL.val RJoining.the-type LJoining.the-laws r-a) ∷ []) → ent 𝓤 (⋆ 𝓤 H A ([])) (Of-c3 𝓤 H A at-mem run .pre (to-3 r-a))
-  goes-to-3 r-a i-a = qed W ([]) ∵ nothing ! $ nothing ! $ owned ! u64 (Is u64) (uint-makes 𝓤 H A W w64) p1 ((vint w64 p1) ∷ []) gp1 $ fjoin ! $ owned ! RJoining.the-row (Is RJoining.the-row) (LL.makes RJoining.the-type LJoining.the-plain 𝓤 H A) r-a ((LL.val RJoining.the-type LJoining.the-laws r-a) ∷ []) i-a $ fjoin ! $ move ! (1 ∷ 0 ∷ []) $ join ! $ frame ! $ done !
+  goes-to-3 r-a i-a = qed W ([]) ∵ nothing ! $ nothing ! $ owned ! RJoining.the-row (Is RJoining.the-row) (LL.makes RJoining.the-type LJoining.the-plain 𝓤 H A) r-a ((LL.val RJoining.the-type LJoining.the-laws r-a) ∷ []) i-a $ fjoin ! $ move ! (1 ∷ 0 ∷ []) $ join ! $ frame ! $ done !
 
-  said-3 : (r-a : Joining) (r : JoinAnswer) → ent 𝓤 (ensured 𝓤 H A c3.ended (c3.clauses 𝓤 H A at-mem run) tt (r-a, (p1, tt)) tt r) (fact 𝓤 (r ≡ joinDone p1 r-a))
-  said-3 r-a r = exE 𝓤 _ (λ ws. snd∗ 𝓤 (sem 𝓤 H A (lasts c3.ended tt (r-a, (p1, tt)) ws)) (fact 𝓤 (r ≡ joinDone p1 r-a)))
+  said-3 : (r-a : Joining) (r : JoinAnswer) → ent 𝓤 (ensured 𝓤 H A c3.ended (c3.clauses 𝓤 H A at-mem run) tt (r-a, tt) tt r) (fact 𝓤 (Answered r-a r))
+  said-3 r-a r = exE 𝓤 _ (λ ws. snd∗ 𝓤 (sem 𝓤 H A (lasts c3.ended tt (r-a, tt) ws)) (fact 𝓤 (Answered r-a r)))
 
-  exits : (r : JoinAnswer) (u : Val) → r ≡ joinRun p1 (p2 .now) → Is RJoinAnswer.the-row r (u ∷ []) → ent 𝓤 (⋆ 𝓤 H A (‵ (flft κp2 qp2) ∷ [])) (Post u)
+  exits : (r : JoinAnswer) (u : Val) → r ≡ joinAnswer p1 (p2 .now) → Is RJoinAnswer.the-row r (u ∷ []) → ent 𝓤 (⋆ 𝓤 H A (‵ (flft κp2 qp2) ∷ [])) (Post u)
   exits r u e is =
-      qed W (‵ (flft κp2 qp2) ∷ []) ∵ suffices ! _ (ends-at 𝓤 H A self.ended stayed (self.clauses 𝓤 H A at-mem run) W (((κp2, tt), (qp2, tt), tt, x, at), tt) u r (tt, (tt, tt)) (tt, (tt, tt))) $ says ! (e ∙ join-is p1 (p2 .now)) $
+      qed W (‵ (flft κp2 qp2) ∷ []) ∵ suffices ! _ (ends-at 𝓤 H A self.ended stayed (self.clauses 𝓤 H A at-mem run) W (((κp2, tt), (qp2, tt), tt, x, at), tt) u r (tt, (tt, tt)) (tt, (tt, tt))) $ says ! e $
       nothing ! $ move ! (1 ∷ 0 ∷ []) $ join ! $ frame ! $ nothing ! $ nothing ! $ fjoin ! $ nothing ! $ fjoin ! $ frame ! $ owned ! RJoinAnswer.the-row (Is RJoinAnswer.the-row) (LL.makes RJoinAnswer.the-type LJoinAnswer.the-plain 𝓤 H A) r (u ∷ []) is $ done !
 
   module _ (C : Calls 𝓤 H) (Λ : Loops 𝓤 H) (fm : FmC 𝓤 H (W .laws) C) (known-c1 : Triple 𝓤 (C #c1) (Of-c1 𝓤 H A at-mem run)) (known-c2 : Triple 𝓤 (C #c2) (Of-c2 𝓤 H A at-mem run)) (known-c3 : Triple 𝓤 (C #c3) (Of-c3 𝓤 H A at-mem run)) (l0 l1 l2 l3 l4 l5 l6 : ℕ) where
@@ -174,19 +181,19 @@ module _ {M : Type 1} (𝓤 : URA M) (H : Heap 𝓤) (A : Atoms 𝓤) (W : Given
     abbrev At-5 : (r-start : JoinStart) (r-a : Joining) → List (Entry 𝓤)
     At-5 r-start r-a = ‵ (froom LJoinAnswer.mir l0 0) ∷ ‵ (fat fullShare (tyInt w64) l1 0 (vint w64 p1)) ∷ ‵ (fat fullShare (sliceTy (tyRef (named 0) imm (pointee (RTimestamp.the-row .written)))) l2 0 (sliceVal (p2 .ptr) (length (p2 .now)))) ∷ ‵ (fat fullShare (tyInt w64) l3 0 (vint w64 (length (p2 .now)))) ∷ ‵ (fat fullShare LJoinStart.mir l4 0 (LL.val RJoinStart.the-type LJoinStart.the-laws r-start)) ∷ ‵ (fat fullShare LJoining.mir l5 0 (LL.val RJoining.the-type LJoining.the-laws r-a)) ∷ ‵ (froom tyBool l6 0) ∷ ‵ (flft κp2 qp2) ∷ ‵ ((ShrSlice (named 0) κp2 RTimestamp.the-row) .own p2 ((sliceVal (p2 .ptr) (length (p2 .now))) ∷ [])) ∷ ‵ (fdies LJoinAnswer.mir l0) ∷ ‵ (fdies (tyInt w64) l1) ∷ ‵ (fdies (sliceTy (tyRef (named 0) imm (pointee (RTimestamp.the-row .written)))) l2) ∷ ‵ (fdies (tyInt w64) l3) ∷ ‵ (fdies LJoinStart.mir l4) ∷ ‵ (fdies LJoining.mir l5) ∷ ‵ (fdies tyBool l6) ∷ []
 
-    stage-5 : (r-start : JoinStart) (e-start : r-start ≡ joinStart p1 (length (p2 .now))) (i-start : Is RJoinStart.the-row r-start ((LL.val RJoinStart.the-type LJoinStart.the-laws r-start) ∷ [])) (h-0 : r-start .stop ≡ false) (r-a : Joining) (e-a : r-a ≡ foldJoin 0 (joiningOf (r-start .judged) noMarks) (p2 .now)) (i-a : Is RJoining.the-row r-a ((LL.val RJoining.the-type LJoining.the-laws r-a) ∷ [])) → ent 𝓤 (⋆ 𝓤 H A (At-5 r-start r-a)) (Wp 𝓤 H C Λ En parts.t-6 (atReturn 𝓤 H En Post))
-    unfolding joinRun
+    stage-5 : (r-start : JoinStart) (e-start : r-start ≡ joinStart p1 (length (p2 .now))) (i-start : Is RJoinStart.the-row r-start ((LL.val RJoinStart.the-type LJoinStart.the-laws r-start) ∷ [])) (h-0 : r-start .stop ≡ false) (r-a : Joining) (e-a : Joined r-start r-a) (i-a : Is RJoining.the-row r-a ((LL.val RJoining.the-type LJoining.the-laws r-a) ∷ [])) → ent 𝓤 (⋆ 𝓤 H A (At-5 r-start r-a)) (Wp 𝓤 H C Λ En parts.t-6 (atReturn 𝓤 H En Post))
+    unfolding joinStart
     stage-5 r-start e-start i-start h-0 r-a e-a i-a =
         qed W (At-5 r-start r-a) ∵ exec ! C Λ En parts.t-6 (atRet En Post) $
         use0 W (raw (Of-c3 𝓤 H A at-mem run .pre (to-3 r-a))) (goes-to-3 r-a i-a) $
-        calls-at ! fm (Of-c3 𝓤 H A at-mem run) known-c3 (to-3 r-a) (and-then ! (load ! (from ! (stop !)) (look ! 6 refl)) (and-then ! (load ! (from ! (stop !)) (look ! 2 refl)) (no-more !))) (λ w.
-        use1 W (later (some (λ (r : JoinAnswer). ((‵ ftrue) ⊛ ‵ (RJoinAnswer.the-row .own r (w ∷ []))) ⊛ raw (ensured 𝓤 H A c3.ended (c3.clauses 𝓤 H A at-mem run) tt (r-a, (p1, tt)) tt r)))) (id⊢ 𝓤 _) $ await ! tt $ pick ! (λ r.
-        split ! $ move ! (1 ∷ []) $ use1 W (raw (fact 𝓤 (r ≡ joinDone p1 r-a))) (said-3 r-a r) $ heard ! (r ≡ joinDone p1 r-a) (λ e. split ! $ move ! (1 ∷ []) $
+        calls-at ! fm (Of-c3 𝓤 H A at-mem run) known-c3 (to-3 r-a) (and-then ! (load ! (from ! (stop !)) (look ! 6 refl)) (no-more !)) (λ w.
+        use1 W (later (some (λ (r : JoinAnswer). ((‵ ftrue) ⊛ ‵ (RJoinAnswer.the-row .own r (w ∷ []))) ⊛ raw (ensured 𝓤 H A c3.ended (c3.clauses 𝓤 H A at-mem run) tt (r-a, tt) tt r)))) (id⊢ 𝓤 _) $ await ! tt $ pick ! (λ r.
+        split ! $ move ! (1 ∷ []) $ use1 W (raw (fact 𝓤 (Answered r-a r))) (said-3 r-a r) $ heard ! (Answered r-a r) (λ e. split ! $ move ! (1 ∷ []) $
         peeks ! RJoinAnswer.the-row (Is RJoinAnswer.the-row) (shows 𝓤 H A RJoinAnswer.the-row) r (w ∷ []) (λ is.
         land ! (from ! (stop !)) (init ! 2 refl (LL.lawful RJoinAnswer.the-type LJoinAnswer.the-laws 𝓤 H A W .typed r _ is .0)) $ drop ! $
         returns ! (look ! 1 refl) $ forget ! 1 refl $ forget ! 2 refl $ forget ! 3 refl $ forget ! 4 refl $ forget ! 5 refl $ forget ! 6 refl $
         move ! (1 ∷ 10 ∷ []) $ free1 ! $ move ! (1 ∷ 9 ∷ []) $ free1 ! $ move ! (1 ∷ 8 ∷ []) $ free1 ! $ move ! (1 ∷ 7 ∷ []) $ free1 ! $ move ! (1 ∷ 6 ∷ []) $ free1 ! $ move ! (1 ∷ 5 ∷ []) $ free1 ! $ move ! (1 ∷ 4 ∷ []) $ free1 ! $ free0 ! $
-        keep ! (1 ∷ []) $ by ! (exits r w (e ∙ (ap (λ (y : Joining). joinDone p1 y) e-a ∙ (ap (λ (y : JoinStart). joinDone p1 (foldJoin 0 (joiningOf (y .judged) noMarks) (p2 .now))) e-start)) ∙ (ap (λ (t : Bool). choose t ((joinStart p1 (length (p2 .now))) .answer) (joinDone p1 (foldJoin 0 (joiningOf ((joinStart p1 (length (p2 .now))) .judged) noMarks) (p2 .now)))) (sym (sym (ap (λ (y : JoinStart). y .stop) (e-start)) ∙ h-0)))) is)))))
+        keep ! (1 ∷ []) $ by ! (exits r w (e p1 (p2 .now) (sym (ap (λ (y : JoinStart). y .stop) e-start) ∙ h-0) (e-a (ap (λ (y : JoinStart). y .judged) e-start))) is)))))
 
     abbrev At-4 : (r-start : JoinStart) → List (Entry 𝓤)
     At-4 r-start = ‵ (froom LJoinAnswer.mir l0 0) ∷ ‵ (fat fullShare (tyInt w64) l1 0 (vint w64 p1)) ∷ ‵ (fat fullShare (sliceTy (tyRef (named 0) imm (pointee (RTimestamp.the-row .written)))) l2 0 (sliceVal (p2 .ptr) (length (p2 .now)))) ∷ ‵ (fat fullShare (tyInt w64) l3 0 (vint w64 (length (p2 .now)))) ∷ ‵ (fat fullShare LJoinStart.mir l4 0 (LL.val RJoinStart.the-type LJoinStart.the-laws r-start)) ∷ ‵ (froom LJoining.mir l5 0) ∷ ‵ (froom tyBool l6 0) ∷ ‵ (flft κp2 qp2) ∷ ‵ ((ShrSlice (named 0) κp2 RTimestamp.the-row) .own p2 ((sliceVal (p2 .ptr) (length (p2 .now))) ∷ [])) ∷ ‵ (fdies LJoinAnswer.mir l0) ∷ ‵ (fdies (tyInt w64) l1) ∷ ‵ (fdies (sliceTy (tyRef (named 0) imm (pointee (RTimestamp.the-row .written)))) l2) ∷ ‵ (fdies (tyInt w64) l3) ∷ ‵ (fdies LJoinStart.mir l4) ∷ ‵ (fdies LJoining.mir l5) ∷ ‵ (fdies tyBool l6) ∷ []
@@ -196,9 +203,9 @@ module _ {M : Type 1} (𝓤 : URA M) (H : Heap 𝓤) (A : Atoms 𝓤) (W : Given
         qed W (At-4 r-start) ∵ exec ! C Λ En parts.t-5 (atRet En Post) $
         move ! (8 ∷ []) $ use1 W (‵ ((ShrSlice (named 0) κp2 RTimestamp.the-row) .own p2 ((sliceVal (p2 .ptr) (length (p2 .now))) ∷ [])) ⊛ ‵ ((ShrSlice (named 0) κp2 RTimestamp.the-row) .own p2 ((sliceVal (p2 .ptr) (length (p2 .now))) ∷ []))) (shr-slice-copy 𝓤 H A W (named 0) κp2 RTimestamp.the-row .twice p2 ((sliceVal (p2 .ptr) (length (p2 .now))) ∷ [])) $ split ! $ move ! (1 ∷ []) $ move ! (9 ∷ 0 ∷ []) $ join ! $
         use1 W (raw (Of-c2 𝓤 H A at-mem run .pre (to-2 r-start))) (goes-to-2 r-start i-start) $
-        calls-at ! fm (Of-c2 𝓤 H A at-mem run) known-c2 (to-2 r-start) (and-then ! (load ! (from ! (fld ! refl (stop !))) (look-in ! 6 (sub ! 2 refl (whole !)))) (and-then ! (load ! (from ! (stop !)) (look ! 4 refl)) (no-more !))) (λ w.
-        use1 W (later (some (λ (r : Joining). ((‵ (flft κp2 qp2) ⊛ ‵ ftrue) ⊛ ‵ (RJoining.the-row .own r (w ∷ []))) ⊛ raw (ensured 𝓤 H A c2.ended (c2.clauses 𝓤 H A at-mem run) (κp2, tt) ((r-start .judged), (p2, tt)) tt r)))) (id⊢ 𝓤 _) $ await ! tt $ pick ! (λ r.
-        split ! $ move ! (1 ∷ []) $ use1 W (raw (fact 𝓤 (r ≡ foldJoin 0 (joiningOf (r-start .judged) noMarks) (p2 .now)))) (said-2 r-start r) $ heard ! (r ≡ foldJoin 0 (joiningOf (r-start .judged) noMarks) (p2 .now)) (λ e. split ! $ move ! (1 ∷ []) $
+        calls-at ! fm (Of-c2 𝓤 H A at-mem run) known-c2 (to-2 r-start) (and-then ! (load ! (from ! (fld ! refl (stop !))) (look-in ! 6 (sub ! 2 refl (whole !)))) (and-then ! (load ! (from ! (stop !)) (look ! 4 refl)) (and-then ! (load ! (from ! (stop !)) (look ! 3 refl)) (no-more !)))) (λ w.
+        use1 W (later (some (λ (r : Joining). ((‵ (flft κp2 qp2) ⊛ ‵ ftrue) ⊛ ‵ (RJoining.the-row .own r (w ∷ []))) ⊛ raw (ensured 𝓤 H A c2.ended (c2.clauses 𝓤 H A at-mem run) (κp2, tt) ((r-start .judged), (p2, (p1, tt))) tt r)))) (id⊢ 𝓤 _) $ await ! tt $ pick ! (λ r.
+        split ! $ move ! (1 ∷ []) $ use1 W (raw (fact 𝓤 (Joined r-start r))) (said-2 r-start r) $ heard ! (Joined r-start r) (λ e. split ! $ move ! (1 ∷ []) $
         peeks ! RJoining.the-row (Is RJoining.the-row) (shows 𝓤 H A RJoining.the-row) r (w ∷ []) (λ is.
         land ! (from ! (stop !)) (init ! 8 refl (LL.lawful RJoining.the-type LJoining.the-laws 𝓤 H A W .typed r _ is .0)) $ drop ! $ move ! (0 ∷ []) $ split ! $
         rewrite ! 8 (λ (u : Val). ‵ (fat fullShare LJoining.mir l5 0 u)) (ap only ((LL.tells RJoining.the-type LJoining.the-laws) r (w ∷ []) is)) refl $ keep ! (3 ∷ 4 ∷ 5 ∷ 6 ∷ 7 ∷ 8 ∷ 9 ∷ 0 ∷ 2 ∷ 10 ∷ 11 ∷ 12 ∷ 13 ∷ 14 ∷ 15 ∷ 16 ∷ []) $ by ! (stage-5 r-start e-start i-start h-0 r e (subst (Is RJoining.the-row r) ((LL.tells RJoining.the-type LJoining.the-laws) r (w ∷ []) is) is))))))
@@ -207,7 +214,7 @@ module _ {M : Type 1} (𝓤 : URA M) (H : Heap 𝓤) (A : Atoms 𝓤) (W : Given
     At-3 r-start = ‵ (froom LJoinAnswer.mir l0 0) ∷ ‵ (fat fullShare (tyInt w64) l1 0 (vint w64 p1)) ∷ ‵ (fat fullShare (sliceTy (tyRef (named 0) imm (pointee (RTimestamp.the-row .written)))) l2 0 (sliceVal (p2 .ptr) (length (p2 .now)))) ∷ ‵ (fat fullShare (tyInt w64) l3 0 (vint w64 (length (p2 .now)))) ∷ ‵ (fat fullShare LJoinStart.mir l4 0 (LL.val RJoinStart.the-type LJoinStart.the-laws r-start)) ∷ ‵ (froom LJoining.mir l5 0) ∷ ‵ (froom tyBool l6 0) ∷ ‵ (flft κp2 qp2) ∷ ‵ ((ShrSlice (named 0) κp2 RTimestamp.the-row) .own p2 ((sliceVal (p2 .ptr) (length (p2 .now))) ∷ [])) ∷ ‵ (fdies LJoinAnswer.mir l0) ∷ ‵ (fdies (tyInt w64) l1) ∷ ‵ (fdies (sliceTy (tyRef (named 0) imm (pointee (RTimestamp.the-row .written)))) l2) ∷ ‵ (fdies (tyInt w64) l3) ∷ ‵ (fdies LJoinStart.mir l4) ∷ ‵ (fdies LJoining.mir l5) ∷ ‵ (fdies tyBool l6) ∷ []
 
     stage-3 : (r-start : JoinStart) (e-start : r-start ≡ joinStart p1 (length (p2 .now))) (i-start : Is RJoinStart.the-row r-start ((LL.val RJoinStart.the-type LJoinStart.the-laws r-start) ∷ [])) → ent 𝓤 (⋆ 𝓤 H A (At-3 r-start)) (Wp 𝓤 H C Λ En parts.t-3 (atReturn 𝓤 H En Post))
-    unfolding joinRun
+    unfolding joinStart
     stage-3 r-start e-start i-start =
         qed W (At-3 r-start) ∵ exec ! C Λ En parts.t-3 (atRet En Post) $
         assigns ! (of-opd ! (load ! (from ! (fld ! refl (stop !))) (look-in ! 4 (sub ! 0 refl (whole !))))) (from ! (stop !)) (init ! 6 refl (tt, tt)) $
@@ -215,7 +222,7 @@ module _ {M : Type 1} (𝓤 : URA M) (H : Heap 𝓤) (A : Atoms 𝓤) (W : Given
         (λ t. assigns ! (of-opd ! (load ! (from ! (fld ! refl (stop !))) (look-in ! 4 (sub ! 1 refl (whole !))))) (from ! (stop !)) (init ! 0 refl (LL.lawful RJoinAnswer.the-type LJoinAnswer.the-laws 𝓤 H A W .typed (r-start .answer) _ (LL.owed RJoinStart.the-type LJoinStart.the-laws r-start _ i-start .1 .0) .0)) $ returns-within ! Post refl (look ! 0 refl) $
         forget ! 0 refl $ forget ! 1 refl $ forget ! 2 refl $ forget ! 3 refl $ forget ! 4 refl $ forget ! 6 refl $
         move ! (0 ∷ 9 ∷ []) $ free1 ! $ move ! (0 ∷ 8 ∷ []) $ free1 ! $ move ! (0 ∷ 7 ∷ []) $ free1 ! $ move ! (0 ∷ 6 ∷ []) $ free1 ! $ move ! (0 ∷ 5 ∷ []) $ free1 ! $ move ! (0 ∷ 4 ∷ []) $ free1 ! $ move ! (0 ∷ 3 ∷ []) $ free1 ! $ free0 ! $
-        keep ! (0 ∷ []) $ by ! (exits (r-start .answer) (LL.val RJoinAnswer.the-type LJoinAnswer.the-laws (r-start .answer)) (ap (λ (y : JoinStart). y .answer) (e-start) ∙ (ap (λ (t : Bool). choose t ((joinStart p1 (length (p2 .now))) .answer) (joinDone p1 (foldJoin 0 (joiningOf ((joinStart p1 (length (p2 .now))) .judged) noMarks) (p2 .now)))) (sym (sym (ap (λ (y : JoinStart). y .stop) (e-start)) ∙ holds (r-start .stop) t)))) (LL.owed RJoinStart.the-type LJoinStart.the-laws r-start _ i-start .1 .0)))
+        keep ! (0 ∷ []) $ by ! (exits (r-start .answer) (LL.val RJoinAnswer.the-type LJoinAnswer.the-laws (r-start .answer)) (ap (λ (y : JoinStart). y .answer) e-start ∙ stopped-is p1 (p2 .now) (sym (ap (λ (y : JoinStart). y .stop) e-start) ∙ holds (r-start .stop) t)) (LL.owed RJoinStart.the-type LJoinStart.the-laws r-start _ i-start .1 .0)))
         (λ t. skips ! $ forget ! 6 refl $ by ! (stage-4 r-start e-start i-start (fails (r-start .stop) t)))
 
     abbrev At-2 : List (Entry 𝓤)

@@ -1,14 +1,9 @@
 -- By the verdict so far, then the entry.
-use Rattle.open_calls.specs.Steps.{joinStep}
 use mathlib.Core.Path.{sym, _∙_}
+use Rattle.open_calls.proofs.Joins.{step-bad, step-good, step-refused}
 use borrow.Author.Needs.{needs}
 use Rattle.open_calls.proofs.join_step.Statement.{statement}
 use Rattle.open_calls.proofs.join_step.Tie as tie
-use Rattle.open_calls.proofs.join_step.Reads as reads
-use Rattle.open_calls.proofs.join_step.Lts as lts
-use Rattle.open_calls.proofs.is_refusal.Reads as is-refusal-reads
-use Rattle.open_calls.proofs.raise.Reads as raise-reads
-use Rattle.timestamps.proofs.Timestamp.valid.Reads as valid-reads
 
 is-refusal-requires : tie.Need-is-refusal-requires
 is-refusal-requires c κs = search needs
@@ -16,22 +11,19 @@ is-refusal-requires c κs = search needs
 valid-requires : tie.Need-valid-requires
 valid-requires c κs = search needs
 
-raise-requires : tie.Need-raise-requires
-raise-requires c κs = sym (c .before .before .valid .ensures) ∙ c .before .if2 .taken
+add-requires : tie.Need-add-requires
+add-requires c κs = sym (c .before .before .valid .ensures) ∙ c .before .if2 .taken
 
 returns : tie.Need-returns
-unfolding joinStep
-returns c = simp (sym (c .before .is-refusal .ensures) ∙ c .if1 .taken)
+returns c = λ l e j. step-refused _ l _ _ j (sym (c .before .is-refusal .ensures) ∙ c .if1 .taken)
 
 returns-2 : tie.Need-returns-2
-unfolding joinStep
-returns-2 c = simp (sym (c .before .before .before .before .before .is-refusal .ensures) ∙ c .before .before .before .before .if1 .left, sym (c .before .before .before .valid .ensures) ∙ c .before .before .if2 .taken, c .raise .ensures)
+returns-2 c = λ l e j. step-good _ l _ _ j _ (sym (c .before .before .before .before .before .is-refusal .ensures) ∙ c .before .before .before .before .if1 .left) (sym (c .before .before .before .valid .ensures) ∙ c .before .before .if2 .taken) (c .add .ensures l)
 
 returns-3 : tie.Need-returns-3
-unfolding joinStep
-returns-3 c = simp (sym (c .before .before .before .is-refusal .ensures) ∙ c .before .before .if1 .left, sym (c .before .valid .ensures) ∙ c .if2 .left)
+returns-3 c = λ l e j. step-bad _ l _ _ j _ e (sym (c .before .before .before .is-refusal .ensures) ∙ c .before .before .if1 .left) (sym (c .before .valid .ensures) ∙ c .if2 .left)
 
 pub join-step-spec : {M : Type 1} → statement M
 join-step-spec =
     tie.close
-    (tie.spec is-refusal-requires valid-requires raise-requires returns returns-2 returns-3)
+    (tie.spec is-refusal-requires valid-requires add-requires returns returns-2 returns-3)

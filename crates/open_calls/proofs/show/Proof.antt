@@ -1,23 +1,19 @@
 -- The places before k are shown.
-use borrow.Author.Needs.{needs}
 use mathlib.Core.Path.{_≡_, ap, _∙_}
 use Prim.Native.Nat.{_≤_, _-_}
 use lib.ListN.{replicate}
 use Rattle.timestamps.specs.Order.{blank}
 use Rattle.timestamps.proofs.Steps.{filledTo, filled-start, filled-turn, filled-end}
-use Rattle.open_calls.specs.Marks.{markAt, shownFrom, shownMark}
+use Rattle.open_calls.specs.Notes.{noteAt, shownFrom, shownNote}
+use borrow.Author.Needs.{needs}
 use Rattle.open_calls.proofs.show.Statement.{statement}
 use Rattle.open_calls.proofs.show.Tie as tie
-use Rattle.open_calls.proofs.show.Reads as reads
-use Rattle.open_calls.proofs.show.Lts as lts
-use Rattle.open_calls.proofs.show_mark.Reads as show-mark-reads
-use Rattle.timestamps.proofs.Timestamp.blank.Reads as blank-reads
 
 abbrev Inv-loop : tie.InvT-loop
-Inv-loop till marks all₀ k₀ all k = (k ≤ 8) × (all ≡ filledTo blank (λ j. shownMark till (markAt marks j) j) k)
+Inv-loop join all₀ k₀ all k = (k ≤ 8) × (all ≡ filledTo blank (λ j. shownNote (noteAt join j) j) k)
 
 abbrev μ-loop : tie.MeasureT-loop
-μ-loop till marks all₀ k₀ all k = 8 - k
+μ-loop join all₀ k₀ all k = 8 - k
 
 blank-requires : tie.Need-blank-requires Inv-loop μ-loop
 blank-requires c κs = search needs
@@ -25,14 +21,14 @@ blank-requires c κs = search needs
 loop-holds : tie.Need-loop-holds Inv-loop μ-loop
 loop-holds c = (search needs, ap (replicate 8) (c .blank .ensures) ∙ filled-start _ _)
 
-mul-show-mark : tie.Need-mul-show-mark Inv-loop μ-loop
-mul-show-mark c = search needs
+mul-show-note : tie.Need-mul-show-note Inv-loop μ-loop
+mul-show-note c = search needs
 
-array-read-show-mark : tie.Need-array-read-show-mark Inv-loop μ-loop
-array-read-show-mark c = search needs
+array-read-show-note : tie.Need-array-read-show-note Inv-loop μ-loop
+array-read-show-note c = search needs
 
-show-mark-requires : tie.Need-show-mark-requires Inv-loop μ-loop
-show-mark-requires c κs = search needs
+show-note-requires : tie.Need-show-note-requires Inv-loop μ-loop
+show-note-requires c κs = search needs
 
 mul-all : tie.Need-mul-all Inv-loop μ-loop
 mul-all c = search needs
@@ -47,7 +43,7 @@ loop-less : tie.Need-loop-less Inv-loop μ-loop
 loop-less c = search needs
 
 loop-again : tie.Need-loop-again Inv-loop μ-loop
-loop-again c = (search needs, filled-turn _ _ _ _ _ (c .before .loop-test .taken) (c .before .before .loop .inv .1) (c .show-mark .ensures))
+loop-again c = (search needs, filled-turn _ _ _ _ _ (c .before .loop-test .taken) (c .before .before .loop .inv .1) (c .show-note .ensures))
 
 returns : tie.Need-returns Inv-loop μ-loop
 unfolding shownFrom
@@ -61,9 +57,9 @@ show-spec =
     μ-loop
     blank-requires
     loop-holds
-    mul-show-mark
-    array-read-show-mark
-    show-mark-requires
+    mul-show-note
+    array-read-show-note
+    show-note-requires
     mul-all
     array-set-from-all
     add-k

@@ -1,14 +1,19 @@
 -- By the operator.
-use mathlib.Core.List.{[]}
-use mathlib.Core.Path.{ap, _∙_}
-use denote.Ref.{now}
-use native.Mathlib.Omega.{arith}
-use Rattle.emissions.specs.Emissions.{Emitting}
-use Rattle.operators.specs.Steps.{andTurn, orTurn, seqTurn}
 use Rattle.operators.proofs.Turns.{and-turn-is, number-none, or-turn-is, seq-turn-is}
+use Rattle.operators.specs.Views.{HoldsTurned}
+use denote.Ref.{now}
+use mathlib.Core.List.{[]}
+use mathlib.Core.Path.{_∙_, refl, subst, sym}
+use native.Mathlib.Omega.{arith}
 use borrow.Author.Needs.{needs}
 use Rattle.operators.proofs.node_turn.Statement.{statement}
 use Rattle.operators.proofs.node_turn.Tie as tie
+use Rattle.operators.proofs.node_turn.Reads as reads
+use Rattle.operators.proofs.node_turn.Lts as lts
+use Rattle.operators.proofs.and_turn.Reads as and-turn-reads
+use Rattle.operators.proofs.fresh.Reads as fresh-reads
+use Rattle.operators.proofs.or_turn.Reads as or-turn-reads
+use Rattle.operators.proofs.seq_turn.Reads as seq-turn-reads
 
 fresh-requires : tie.Need-fresh-requires
 fresh-requires c κs = search needs
@@ -27,19 +32,25 @@ shared-slice-element-or-turn-2 c = search needs
 
 or-turn-requires : tie.Need-or-turn-requires
 or-turn-requires c κs =
-    let fresh = c .before .before .before .before .before .before .fresh .ensures in
-    let start = c .before .before .before .before .before .before .before .before in
-    (start .pre .0, omega (arith, fresh .1, start .pre .1), omega (arith, fresh .1, fresh .2, start .pre .2))
+    let s = c .before .before .before .before .before .before .before .before .before .before in
+    let f = c .before .before .before .before .before .before .fresh .ensures in
+    let (some, at, few, in-a, in-b) = s .pre in
+    let (t, x, y, a, b, h, j, g, i) = some in
+    ((now (s .args .globals), t, a, b, _, g, i, f .0 _ _ t _ _), (omega (arith, f .1, at), omega (arith, f .1, f .2, few)))
 
 same-length : tie.Need-same-length
-same-length c = c .before .before .or-turn .kept .1 .1 .1 .1 .1 .1 .1 .1 .1 .0
+same-length c = search needs
 
 returns : tie.Need-returns
 returns c =
-    let told = c .before .before .before .before .before .before .before .before .before in
-    let fresh = told .fresh .ensures in
-    let call = c .before .before .or-turn .ensures in
-    (or-turn-is _ _ _ _ _ _ _ _ _ (c .before .before .before .before .before .before .before .if1 .taken) _ (call .0 ∙ ap (orTurn _ _ _ _ _) (fresh .0 _ (now (told .before .before .args .made)) _)), rw (fresh .1) at (call .1))
+    let s = c .before .before .before .before .before .before .before .before .before .before .before .before .before in
+    let f = c .before .before .before .before .before .before .before .before .before .fresh .ensures in
+    let (some, at, few, in-a, in-b) = s .pre in
+    let call = c .before .before .or-turn .ensures in (
+      (λ t x y a b h j g i. subst (HoldsTurned t _ _ _ _ _) (or-turn-is _ _ _ x y a b _ _ (c .before .before .before .before .before .before .before .if1 .taken) _ refl)
+          (record { left = h; right = j; emit = call .0 _ t a b _ g i (f .0 _ _ t _ _) })),
+      rw (f .1) at (call .1),
+    )
 
 mul-and-turn : tie.Need-mul-and-turn
 mul-and-turn c = search needs
@@ -55,19 +66,25 @@ shared-slice-element-and-turn-2 c = search needs
 
 and-turn-requires : tie.Need-and-turn-requires
 and-turn-requires c κs =
-    let fresh = c .before .before .before .before .before .before .before .before .before .before .fresh .ensures in
-    let start = c .before .before .before .before .before .before .before .before .before .before .before .before in
-    (start .pre .0, omega (arith, fresh .1, start .pre .1), omega (arith, fresh .1, fresh .2, start .pre .2))
+    let s = c .before .before .before .before .before .before .before .before .before .before .before .before .before .before in
+    let f = c .before .before .before .before .before .before .before .before .before .before .fresh .ensures in
+    let (some, at, few, in-a, in-b) = s .pre in
+    let (t, x, y, a, b, h, j, g, i) = some in
+    ((t, x, y, a, b, _, h, j, g, i, f .0 _ _ t _ _), (omega (arith, f .1, at), omega (arith, f .1, f .2, few)))
 
 same-length-2 : tie.Need-same-length-2
-same-length-2 c = c .before .before .and-turn .kept .1 .1 .1 .1 .1 .1 .1 .1 .1 .1 .1 .1 .1 .1 .1 .0
+same-length-2 c = search needs
 
 returns-2 : tie.Need-returns-2
 returns-2 c =
-    let told = c .before .before .before .before .before .before .before .before .before .before .before .before .before in
-    let fresh = told .fresh .ensures in
-    let call = c .before .before .and-turn .ensures in
-    (and-turn-is _ _ _ _ _ _ _ _ _ (c .before .before .before .before .before .before .before .before .before .before .before .if1 .left) (c .before .before .before .before .before .before .before .before .before .if2 .taken) _ (call .0 ∙ ap (andTurn _ _ _ _ _ _ _) (fresh .0 _ (now (told .before .before .args .made)) _)), rw (fresh .1) at (call .1))
+    let s = c .before .before .before .before .before .before .before .before .before .before .before .before .before .before .before .before .before in
+    let f = c .before .before .before .before .before .before .before .before .before .before .before .before .before .fresh .ensures in
+    let (some, at, few, in-a, in-b) = s .pre in
+    let call = c .before .before .and-turn .ensures in (
+      (λ t x y a b h j g i. subst (HoldsTurned t _ _ _ _ _) (and-turn-is _ _ _ x y a b _ _ (c .before .before .before .before .before .before .before .before .before .before .before .if1 .left) (c .before .before .before .before .before .before .before .before .before .if2 .taken) _ refl)
+          (call .0 t x y a b _ h j g i (f .0 _ _ t _ _))),
+      rw (f .1) at (call .1),
+    )
 
 mul-seq-turn : tie.Need-mul-seq-turn
 mul-seq-turn c = search needs
@@ -83,19 +100,26 @@ shared-slice-element-seq-turn-2 c = search needs
 
 seq-turn-requires : tie.Need-seq-turn-requires
 seq-turn-requires c κs =
-    let fresh = c .before .before .before .before .before .before .before .before .before .fresh .ensures in
-    let start = c .before .before .before .before .before .before .before .before .before .before .before in
-    (start .pre .0, omega (arith, fresh .1, start .pre .1), omega (arith, fresh .1, fresh .2, start .pre .2), ap (λ (e : Emitting). e .limit) (fresh .0 [] [] []) ∙ number-none)
+    let s = c .before .before .before .before .before .before .before .before .before .before .before .before .before in
+    let f = c .before .before .before .before .before .before .before .before .before .fresh .ensures in
+    let (some, at, few, in-a, in-b) = s .pre in
+    let (t, x, y, a, b, h, j, g, i) = some in
+    ((t, x, a, b, _, h, g, i, f .0 _ _ t _ _), (omega (arith, f .1, at), omega (arith, f .1, f .2, few)), sym (f .0 _ _ t [] [] .limit) ∙ number-none)
 
 same-length-3 : tie.Need-same-length-3
-same-length-3 c = c .before .before .before .seq-turn .kept .1 .1 .1 .1 .1 .1 .1 .1 .1 .1 .1 .1 .1 .0
+same-length-3 c = search needs
 
 returns-3 : tie.Need-returns-3
 returns-3 c =
-    let told = c .before .before .before .before .before .before .before .before .before .before .before .before .before in
-    let fresh = told .fresh .ensures in
-    let call = c .before .before .before .seq-turn .ensures in
-    (seq-turn-is _ _ _ _ _ _ _ _ _ (c .before .before .before .before .before .before .before .before .before .before .before .if1 .left) (c .before .before .before .before .before .before .before .before .before .if2 .left) _ (call .0 ∙ ap (seqTurn _ _ _ _ _ _) (fresh .0 _ (now (told .before .before .args .made)) _)), rw (fresh .1) at (call .1))
+    let s = c .before .before .before .before .before .before .before .before .before .before .before .before .before .before .before .before .before in
+    let f = c .before .before .before .before .before .before .before .before .before .before .before .before .before .fresh .ensures in
+    let (some, at, few, in-a, in-b) = s .pre in
+    let call = c .before .before .before .seq-turn .ensures in (
+      (λ t x y a b h j g i.
+          let r = call .0 t x a b _ h g i (f .0 _ _ t _ _) in
+          subst (HoldsTurned t _ _ _ _ _) (seq-turn-is _ _ _ x y a b _ _ (c .before .before .before .before .before .before .before .before .before .before .before .if1 .left) (c .before .before .before .before .before .before .before .before .before .if2 .left) _ refl) (record { left = r .list; right = j; emit = r .emit })),
+      rw (f .1) at (call .1),
+    )
 
 pub node-turn-spec : {M : Type 1} → statement M
 node-turn-spec =

@@ -1,21 +1,32 @@
--- What is left of the list, from the state so far, is the whole.
-use mathlib.Core.Path.{_≡_, refl, sym, _∙_}
-use Prim.Native.Nat.{_≤_, _-_}
-use denote.Ref.{now}
-use native.Mathlib.Omega.{arith}
-use borrow.Author.Needs.{needs}
-use lib.ListN.{drop, length}
-use Rattle.sequences.specs.Loops.{fold}
-use Rattle.detections.specs.Writing.{Beyond}
+-- Those before place i went out.
+use Prim.Native.Nat.{_-_, _<_, _≤_, ℕ}
 use Rattle.detections.proofs.Writing.{beyond-none, beyond-then}
-use Rattle.occurrences.specs.Packed.{held}
-use Rattle.emissions.specs.Emissions.{emitOf, emitted, emittedAll}
-use Rattle.operators.proofs.Turns.{arrival-end, arrival-turn}
+use Rattle.detections.specs.Writing.{Beyond}
+use Rattle.emissions.specs.Emissions.{Emits, Emitting, emitted, emittedAll}
+use Rattle.occurrences.proofs.Rows.{holds-at, holds-length, holds-within}
+use Rattle.occurrences.specs.Occurrences.{blank}
+use Rattle.occurrences.specs.Packed.{Holds, Notes}
+use Rattle.occurrences.specs.declared.Occurrence.{Occurrence}
+use Rattle.sequences.proofs.Loops.{fold-before, fold-none, fold-whole}
+use Rattle.sequences.specs.Loops.{fold}
+use borrow.Author.Needs.{needs}
+use denote.Ref.{now}
+use lib.ListN.{getD, length, length-take, take}
+use mathlib.Core.List.{List}
+use mathlib.Core.Path.{_≡_, refl, subst, sym}
+use native.Mathlib.Omega.{arith}
 use Rattle.operators.proofs.or_all.Statement.{statement}
 use Rattle.operators.proofs.or_all.Tie as tie
+use Rattle.operators.proofs.or_all.Reads as reads
+use Rattle.operators.proofs.or_all.Lts as lts
+use Rattle.emissions.proofs.emit_one.Reads as emit-one-reads
+use Rattle.operators.proofs.up_to.Reads as up-to-reads
 
 abbrev Inv-loop : tie.InvT-loop
-Inv-loop made₀ arrivals count place ticks loggers out₀ n f₀ i₀ made out f i = (i ≤ n) × (length out ≡ length out₀) × Beyond out₀ out (f₀ .at) (f .findings) (f .at) × (fold (emitted (length out₀) loggers place) (drop i (held ticks arrivals count)) (emitOf ticks f made out) ≡ emittedAll (length out₀) loggers place (emitOf ticks f₀ made₀ out₀) (held ticks arrivals count))
+Inv-loop made₀ arrivals count place ticks loggers out₀ n f₀ i₀ made out f i =
+    (i ≤ n) × (length out ≡ length out₀) × Beyond out₀ out (f₀ .at) (f .findings) (f .at)
+    × ((globals : List ℕ) (t : Notes ticks globals) (k : List Occurrence) (s : Emitting) → Holds t arrivals count k → Emits t f₀ made₀ out₀ s
+    → Emits t f made out (fold (emitted (length out₀) loggers place) (take i k) s))
 
 abbrev μ-loop : tie.MeasureT-loop
 μ-loop made₀ arrivals count place ticks loggers out₀ n f₀ i₀ made out f i = n - i
@@ -24,8 +35,9 @@ up-to-requires : tie.Need-up-to-requires Inv-loop μ-loop
 up-to-requires c κs = search needs
 
 loop-holds : tie.Need-loop-holds Inv-loop μ-loop
-unfolding emittedAll
-loop-holds c = (search needs, refl, beyond-none (c .before .before .before .pre .1) (c .before .before .before .pre .2), refl)
+loop-holds c =
+    let (some, fits) = c .before .before .before .before .pre in
+    (search needs, refl, beyond-none (fits .0) (fits .1), λ globals t k s h m. subst (Emits t _ _ _) (sym (fold-none _ s)) m)
 
 mul-emit-one : tie.Need-mul-emit-one Inv-loop μ-loop
 mul-emit-one c = search needs
@@ -34,7 +46,15 @@ index-1-emit-one : tie.Need-index-1-emit-one Inv-loop μ-loop
 index-1-emit-one c = search needs
 
 emit-one-requires : tie.Need-emit-one-requires Inv-loop μ-loop
-emit-one-requires c κs = let a = c .before .before .before .before in (a .before .before .before .before .pre .0, a .loop .inv .2 .within, a .loop .inv .2 .few)
+emit-one-requires c κs =
+    let a = c .before .before .before .before in
+    let s = c .before .before .before .before .before .before .before .before .before in
+    let arrivals = now (s .args .arrivals) in
+    let count = s .args .count in
+    let within : a .loop .i < length (take count arrivals) = omega (arith, c .before .before .before .before .before .up-to .ensures, length-take count arrivals, c .before .before .before .loop-test .taken) in
+    let (some, fits) = s .pre in
+    let (globals, t, k, e, h, m) = some in
+    ((λ j b. holds-within t arrivals count k h _ within j b .0), t .no-tick, a .loop .inv .2 .within, a .loop .inv .2 .few)
 
 add-i : tie.Need-add-i Inv-loop μ-loop
 add-i c = search needs
@@ -45,24 +65,32 @@ loop-less c = search needs
 loop-again : tie.Need-loop-again Inv-loop μ-loop
 loop-again c =
     let a = c .before .before .before .before .before .before .before in
-    let within = c .before .before .before .before .before .before .loop-test .taken in
-    let start = a .before .before .before .before in
-    let call = c .before .before .emit-one in
-    let same = rw (a .loop .inv .1) at (call .ensures .0) in (
-      omega (arith, within),
-      call .kept .1 .1 .1 .1 .1 .1 .0 ∙ a .loop .inv .1,
+    let s = c .before .before .before .before .before .before .before .before .before .before .before .before in
+    let arrivals = now (s .args .arrivals) in
+    let count = s .args .count in
+    let within : a .loop .i < length (take count arrivals) = omega (arith, c .before .before .before .before .before .before .before .before .up-to .ensures, length-take count arrivals, c .before .before .before .before .before .before .loop-test .taken) in
+    let call = c .before .before .emit-one in (
+      omega (arith, c .before .before .before .before .before .before .loop-test .taken),
+      search needs,
       beyond-then (a .loop .inv .2) (call .ensures .1),
-      arrival-turn _ (now (start .args .ticks)) (now (start .args .arrivals)) (start .args .count) _ (a .loop .i) (a .before .up-to .ensures) _ _ within same ∙ a .loop .inv .3,
+      λ globals t k e h m.
+          let in-k : a .loop .i < length k = omega (arith, within, holds-length t arrivals count k h) in
+          let now-made = rw (a .loop .inv .1) at (call .ensures .0 globals t _ (getD k (a .loop .i) blank) (a .loop .inv .3 globals t k e h m) (holds-at t arrivals count k h (a .loop .i) in-k)) in
+          subst (Emits t _ _ _) (sym (fold-before _ k (a .loop .i) e blank in-k)) now-made,
     )
 
 same-length : tie.Need-same-length Inv-loop μ-loop
 same-length c = c .before .loop .inv .1
 
 returns : tie.Need-returns Inv-loop μ-loop
+unfolding emittedAll
 returns c =
     let a = c .before in
-    let start = a .before .before .before .before in
-    (sym (arrival-end _ (now (start .args .ticks)) (now (start .args .arrivals)) (start .args .count) _ (a .loop .i) (a .before .up-to .ensures) _ (c .loop-test .left)) ∙ a .loop .inv .3, a .loop .inv .2)
+    let s = c .before .before .before .before .before .before in
+    let arrivals = now (s .args .arrivals) in
+    let count = s .args .count in
+    let past : length (take count arrivals) ≤ a .loop .i = omega (arith, c .before .before .up-to .ensures, length-take count arrivals, c .loop-test .left) in
+    ((λ globals t k e h m. subst (Emits t _ _ _) (fold-whole _ k (a .loop .i) e (omega (arith, past, holds-length t arrivals count k h))) (a .loop .inv .3 globals t k e h m)), a .loop .inv .2)
 
 pub or-all-spec : {M : Type 1} → statement M
 or-all-spec =

@@ -1,6 +1,6 @@
 -- Both limits.
 use Rattle.timestamps.specs.Order.{validRatio}
-use borrow.Author.Tests.{le-leb, lt-leb}
+use borrow.Author.Tests.{le-leb}
 use native.Mathlib.Omega.{arith}
 use Prim.Native.Nat.{_≤_}
 use Rattle.timestamps.proofs.valid_ratio.Statement.{statement}

@@ -18,17 +18,17 @@ element-set-from-row c = search needs
 
 -- src/lib.rt:141:9
 returns : tie.Need-returns
-returns c ticks =
+returns c =
     let m = c .before .before .before .before .before in
     let a = m .before .args in
-    more-put ticks (a .row .now) (a .waiting) (a .o .now) (search needs) (m .with-one-more .result) (m .with-one-more .ensures) (search needs)
+    more-put (a .row .now) (a .waiting) (a .o .now) (search needs) (m .with-one-more .result) (m .with-one-more .ensures) (search needs)
 
 -- src/lib.rt:132:1
 returns-2 : tie.Need-returns-2
-returns-2 c ticks =
+returns-2 c =
     let m = c .before .before .before .before in
     let a = m .before .args in
-    more-left ticks (a .row .now) (a .waiting) (a .o .now) (search needs) (m .with-one-more .result) (m .with-one-more .ensures) (search needs)
+    more-left (a .row .now) (a .waiting) (a .o .now) (search needs) (m .with-one-more .result) (m .with-one-more .ensures) (search needs)
 
 pub append-to-spec : {M : Type 1} → statement M
 append-to-spec =

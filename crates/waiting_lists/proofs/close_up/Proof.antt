@@ -1,21 +1,21 @@
 -- In place: the first k places hold those of the first i that stay, and from i on nothing has moved.
-use mathlib.Core.Path.{_≡_, sym, _∙_}
-use mathlib.Core.List.{List, map}
-use Prim.Native.Nat.{ℕ, min, _-_, _≤_}
+use mathlib.Core.Path.{_≡_, refl, sym, _∙_}
+use mathlib.Core.List.{[]}
+use Prim.Native.Nat.{min, _-_, _≤_}
 use native.Mathlib.Omega.{arith}
 use borrow.Author.Needs.{needs}
 use borrow.Author.Tests.{not-true, not-false}
-use lib.ListN.{length}
+use lib.ListN.{getD, length, take}
 use Rattle.sequences.specs.Marks.{firstMark}
-use Rattle.occurrences.specs.Packed.{held, occurrenceOf}
 use Rattle.waiting_lists.specs.Marks.{marksOf}
 use Rattle.waiting_lists.proofs.Marks.{length-marks}
-use Rattle.waiting_lists.proofs.Removals.{Closing, closing-start, closing-end, row-gone, row-kept}
+use Rattle.waiting_lists.proofs.Removals.{Closing, closing-start, closing-gone, closing-kept, closing-end}
 use Rattle.waiting_lists.proofs.close_up.Statement.{statement}
 use Rattle.waiting_lists.proofs.close_up.Tie as tie
 
 abbrev Inv-loop : tie.InvT-loop
-Inv-loop row₀ waiting gone first n start k₀ i₀ row k i = (i ≤ n) × (n ≤ 16) × (k ≤ i) × (length row ≡ 16) × ((ticks : List ℕ) → Closing (map (occurrenceOf ticks) row₀) waiting (marksOf gone) (map (occurrenceOf ticks) row) k i)
+Inv-loop row₀ waiting gone first n start k₀ i₀ row k i =
+    (i ≤ n) × (n ≤ 16) × (k ≤ i) × (length row ≡ 16) × Closing row₀ waiting (marksOf gone) row k i
 
 abbrev μ-loop : tie.MeasureT-loop
 μ-loop row₀ waiting gone first n start k₀ i₀ row k i = n - i
@@ -33,10 +33,10 @@ loop-holds : tie.Need-loop-holds Inv-loop μ-loop
 loop-holds c =
     let e = c .before in
     let a = e .before .before .before .args in
-    let n : (ticks : List ℕ) → e .count-in .result ≡ length (held ticks (a .row .now) (a .waiting)) = e .count-in .ensures .0 in
+    let n : e .count-in .result ≡ length (take (a .waiting) (a .row .now)) = e .count-in .ensures .0 in
     let f : e .before .before .first-marked .result ≡ firstMark (marksOf (a .gone)) = e .before .before .first-marked .ensures in
     let s : c .earlier .result ≡ min (e .before .before .first-marked .result) (e .count-in .result) = c .earlier .ensures in
-    (omega arith, search needs, search needs, search needs, (λ ticks. closing-start (map (occurrenceOf ticks) (a .row .now)) (a .waiting) (marksOf (a .gone)) _ (omega (arith, n ticks))))
+    (omega arith, search needs, search needs, search needs, closing-start (a .row .now) (a .waiting) (marksOf (a .gone)) _ (omega arith))
 
 add-next : tie.Need-add-next Inv-loop μ-loop
 add-next c = search needs
@@ -68,13 +68,14 @@ loop-again c =
     let b = m .before .before in
     let e = b .before .before in
     let a = e .before .before .before .args in
-    let n : (ticks : List ℕ) → e .count-in .result ≡ length (held ticks (a .row .now) (a .waiting)) = e .count-in .ensures .0 in (
+    let n : e .count-in .result ≡ length (take (a .waiting) (a .row .now)) = e .count-in .ensures .0 in (
       search needs,
       search needs,
       search needs,
       search needs,
-      (λ ticks. row-kept ticks (a .row .now) (b .loop .row) (a .waiting) (marksOf (a .gone)) (b .loop .k) (b .loop .i) (b .loop .inv .4 ticks)
-          (omega (arith, n ticks)) (omega (arith, length-marks (a .gone), b .loop .inv .1)) (search needs) (search needs) (sym (m .is-marked .ensures) ∙ not-true _ (c .before .if1 .taken))),
+      closing-kept (a .row .now) (a .waiting) (marksOf (a .gone)) (b .loop .row) (b .loop .k) (b .loop .i) [] (b .loop .inv .4)
+          (omega arith) (omega (arith, length-marks (a .gone), b .loop .inv .1))
+          (getD (b .loop .row) (b .loop .i) []) (search needs) refl (sym (m .is-marked .ensures) ∙ not-true _ (c .before .if1 .taken)),
     )
 
 loop-less-2 : tie.Need-loop-less-2 Inv-loop μ-loop
@@ -86,22 +87,22 @@ loop-again-2 c =
     let b = m .before .before in
     let e = b .before .before in
     let a = e .before .before .before .args in
-    let n : (ticks : List ℕ) → e .count-in .result ≡ length (held ticks (a .row .now) (a .waiting)) = e .count-in .ensures .0 in (
+    let n : e .count-in .result ≡ length (take (a .waiting) (a .row .now)) = e .count-in .ensures .0 in (
       search needs,
       search needs,
       search needs,
       search needs,
-      (λ ticks. row-gone ticks (a .row .now) (b .loop .row) (a .waiting) (marksOf (a .gone)) (b .loop .k) (b .loop .i) (b .loop .inv .4 ticks)
-          (omega (arith, n ticks)) (omega (arith, length-marks (a .gone), b .loop .inv .1)) (sym (m .is-marked .ensures) ∙ not-false _ (c .if1 .left))),
+      closing-gone (a .row .now) (a .waiting) (marksOf (a .gone)) (b .loop .row) (b .loop .k) (b .loop .i) [] (b .loop .inv .4)
+          (omega arith) (omega (arith, length-marks (a .gone), b .loop .inv .1)) (sym (m .is-marked .ensures) ∙ not-false _ (c .if1 .left)),
     )
 
 returns : tie.Need-returns Inv-loop μ-loop
-returns c ticks =
+returns c =
     let b = c .before in
     let e = b .before .before in
     let a = e .before .before .before .args in
-    let n : (ticks : List ℕ) → e .count-in .result ≡ length (held ticks (a .row .now) (a .waiting)) = e .count-in .ensures .0 in
-    closing-end (map (occurrenceOf ticks) (a .row .now)) (a .waiting) (marksOf (a .gone)) (map (occurrenceOf ticks) (b .loop .row)) (b .loop .k) (b .loop .i) (b .loop .inv .4 ticks) (omega (arith, n ticks))
+    let n : e .count-in .result ≡ length (take (a .waiting) (a .row .now)) = e .count-in .ensures .0 in
+    closing-end (a .row .now) (a .waiting) (marksOf (a .gone)) (b .loop .row) (b .loop .k) (b .loop .i) (b .loop .inv .4) (omega arith)
 
 pub close-up-spec : {M : Type 1} → statement M
 close-up-spec =

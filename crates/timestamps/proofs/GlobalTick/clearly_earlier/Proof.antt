@@ -1,6 +1,6 @@
--- The difference is taken where it cannot wrap.
+-- One less than the other, where there is one less.
 use Rattle.timestamps.specs.Order.{clearlyEarlier}
-use Rattle.timestamps.proofs.Order.{clear-below, clear-above}
+use Rattle.timestamps.proofs.Order.{clear-below, clear-none}
 use borrow.Author.Needs.{needs}
 use Rattle.timestamps.proofs.GlobalTick.clearly_earlier.Statement.{statement}
 use Rattle.timestamps.proofs.GlobalTick.clearly_earlier.Tie as tie
@@ -10,11 +10,11 @@ sub-result c = search needs
 
 returns : tie.Need-returns
 unfolding clearlyEarlier
-returns c = clear-below _ _ (c .before .before .if1 .taken)
+returns c = clear-none _ _ (c .if1 .taken)
 
 returns-2 : tie.Need-returns-2
 unfolding clearlyEarlier
-returns-2 c = clear-above _ _ (c .if1 .left)
+returns-2 c = clear-below _ _ (c .before .before .if1 .left)
 
 pub clearly-earlier-spec : {M : Type 1} → statement M
 clearly-earlier-spec = tie.close (tie.spec sub-result returns returns-2)

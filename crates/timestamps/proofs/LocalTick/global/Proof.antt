@@ -1,5 +1,4 @@
 -- The quotient; by 0 it is 0.
-use Rattle.timestamps.specs.Order.{globalOf}
 use native.Mathlib.Nat.{div-zero}
 use mathlib.Core.Path.{refl}
 use borrow.Author.Needs.{needs}
@@ -10,11 +9,9 @@ div-t5 : tie.Need-div-t5
 div-t5 c = search needs
 
 returns : tie.Need-returns
-unfolding globalOf
 returns c = rw (c .if1 .taken, div-zero (c .before .args .self .0))
 
 returns-2 : tie.Need-returns-2
-unfolding globalOf
 returns-2 c = refl
 
 pub global-spec : {M : Type 1} → statement M

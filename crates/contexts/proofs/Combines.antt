@@ -1,0 +1,58 @@
+-- The loop that combines an arrival with those taken: what is left to combine, with what there is, is the whole.
+use mathlib.Core.Path.{_≡_, refl, sym, ap, subst, _∙_}
+use mathlib.Core.Bool.{Bool, true, false}
+use mathlib.Core.List.{List, []}
+use Prim.Native.Nat.{ℕ, _+_, _≤_, _<_}
+use native.Mathlib.Omega.{arith}
+use lib.ListN.{drop, getD, length, take}
+use Rattle.sequences.specs.Loops.{fold}
+use Rattle.sequences.specs.Marks.{marked}
+use Rattle.sequences.proofs.Loops.{fold-none}
+use Rattle.sequences.proofs.Marks.{marked-end}
+use Rattle.occurrences.specs.declared.Occurrence.{Occurrence}
+use Rattle.occurrences.specs.Combination.{combinedOf}
+use Rattle.occurrences.specs.Occurrences.{blank}
+use Rattle.occurrences.specs.Packed.{Holds, Notes, Stands}
+use Rattle.occurrences.proofs.Rows.{holds-at, holds-length}
+use Rattle.contexts.proofs.Steps.{combined-no, combined-yes}
+
+-- c stands for what is combined so far
+pub record Left {ticks globals : List ℕ} (t : Notes ticks globals) (l : List Occurrence) (m : List Bool) (x : Occurrence) (c : List ℕ) (i : ℕ) : Type 0 where
+  pub so-far : Occurrence
+  pub stands : Stands t c so-far
+  pub same : fold (combinedOf (t .clocks)) (marked (drop i l) (drop i m)) so-far ≡ fold (combinedOf (t .clocks)) (marked l m) x
+
+abbrev pub Combines : (ticks globals : List ℕ) (row : List (List ℕ)) (n : ℕ) (m : List Bool) (o c : List ℕ) (i : ℕ) → Type 0
+Combines ticks globals row n m o c i = (t : Notes ticks globals) (l : List Occurrence) (x : Occurrence) → Holds t row n l → Stands t o x → Left t l m x c i
+
+module _ (ticks globals : List ℕ) (row : List (List ℕ)) (n : ℕ) (m : List Bool) (o : List ℕ) where
+  pub combines-start : Combines ticks globals row n m o o 0
+  combines-start t l x h p = record { so-far = x; stands = p; same = refl }
+
+  module _ (c : List ℕ) (i : ℕ) where
+    module _ (in-row : i < length (take n row)) (in-m : i < length m) where
+      in-l : (t : Notes ticks globals) (l : List Occurrence) → Holds t row n l → i < length l
+      in-l t l h = omega (arith, holds-length t row n l h, in-row)
+
+      pub combines-yes : (d : List ℕ) → getD m i false ≡ true
+          → ((t : Notes ticks globals) (x y : Occurrence) → Stands t c x → Stands t (getD row i []) y → Stands t d (combinedOf (t .clocks) x y))
+          → Combines ticks globals row n m o c i → Combines ticks globals row n m o d (i + 1)
+      combines-yes d e f g t l x h p =
+          let r = g t l x h p in
+          record {
+            so-far = combinedOf (t .clocks) (r .so-far) (getD l i blank);
+            stands = f t (r .so-far) (getD l i blank) (r .stands) (holds-at t row n l h i (in-l t l h));
+            same = combined-yes l m i (in-l t l h) in-m (combinedOf (t .clocks)) (r .so-far) _ e refl ∙ r .same;
+          }
+
+      pub combines-no : getD m i false ≡ false → Combines ticks globals row n m o c i → Combines ticks globals row n m o c (i + 1)
+      combines-no e g t l x h p =
+          let r = g t l x h p in
+          record { so-far = r .so-far; stands = r .stands; same = combined-no l m i (in-l t l h) in-m (combinedOf (t .clocks)) (r .so-far) e ∙ r .same }
+
+    pub combines-end : length (take n row) ≤ i → Combines ticks globals row n m o c i
+        → (t : Notes ticks globals) (l : List Occurrence) (x : Occurrence) → Holds t row n l → Stands t o x → Stands t c (fold (combinedOf (t .clocks)) (marked l m) x)
+    combines-end past g t l x h p =
+        let r = g t l x h p in
+        let e = marked-end l m i (omega (arith, holds-length t row n l h, past)) in
+        subst (Stands t c) (sym (ap (λ k. fold (combinedOf (t .clocks)) k (r .so-far)) e ∙ fold-none (combinedOf (t .clocks)) (r .so-far)) ∙ r .same) (r .stands)
