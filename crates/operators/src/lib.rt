@@ -259,7 +259,8 @@ fn seq_turn(
     ensures meets { λ r. ⌜ ((t : Notes (now (ticks .entry)) (now (globals .entry))) (l a b : List Occurrence) (s : Emitting)
         → Holds t (now (left .entry)) waiting l → Holds t (now (la .entry)) na a → Holds t (now (ra .entry)) nb b
         → Emits t e (now (made .entry)) (now (out .entry)) s
-        → HoldsMet t r (now (left .exit)) (now (made .exit)) (now (out .exit)) (seqTurn (settingOf (length (now (out .entry))) (t .clocks) (now (loggers .entry))) node place l a b s)) ⌝ }
+        → HoldsMet t r (now (left .exit)) (now (made .exit)) (now (out .exit))
+        (seqTurn (settingOf (length (now (out .entry))) (t .clocks) (now (loggers .entry))) node place l a b s)) ⌝ }
     ensures beyond { λ r. ⌜ Beyond (now (out .entry)) (now (out .exit)) (e .at) (r .emit .findings) (r .emit .at) ⌝ }
 {
     let over = overflows(left, waiting, la, na);

@@ -176,7 +176,9 @@ fn read_number(
     wrong: PlanFault,
 ) -> NumberRead
     requires { ⌜ (1 ≤ width) × (width ≤ 8) × (0 < numberOf wrong) ⌝ }
-    ensures { λ r. ⌜ (seen (numberOf (r .fault)) (r .value) (r .at) ≡ piece (number width) (numberOf PlanFault.CutShort) (outside low high (numberOf wrong)) (now (bytes .entry)) at) × (r .value ≤ high) ⌝ }
+    ensures { λ r. ⌜ (seen (numberOf (r .fault)) (r .value) (r .at)
+        ≡ piece (number width) (numberOf PlanFault.CutShort) (outside low high (numberOf wrong)) (now (bytes .entry)) at)
+        × (r .value ≤ high) ⌝ }
 {
     match forms::read_number(bytes, at, width, low, high) {
         forms::NumberRead::CutShort => NumberRead {
@@ -339,7 +341,9 @@ fn row_of(n: Node) -> [u16; 4]
 }
 
 fn read_node(bytes: &[u8], at: usize, kinds: usize, place: usize) -> NodeRead
-    ensures { λ r. ⌜ (seen (numberOf (r .fault)) (r .node) (r .at) ≡ piece node (numberOf PlanFault.CutShort) (nodeFault kinds place) (now (bytes .entry)) at) × node .fits (r .node) ⌝ }
+    ensures { λ r. ⌜ (seen (numberOf (r .fault)) (r .node) (r .at)
+        ≡ piece node (numberOf PlanFault.CutShort) (nodeFault kinds place) (now (bytes .entry)) at)
+        × node .fits (r .node) ⌝ }
 {
     if forms::left(bytes, at) < Node::WIDTH {
         return NodeRead {
@@ -392,7 +396,8 @@ fn read_nodes(bytes: &[u8], start: usize, kinds: usize, into: &mut [[u16; 4]; 16
 
 // ---- the whole file
 fn turned_back(fault: PlanFault, place: usize) -> PlanRead
-    ensures { λ r. ⌜ ((loggers kinds : List ℕ) (nodes : List (List ℕ)) → answerOf r loggers kinds nodes ≡ refused (numberOf fault) place) × (r .«logger_count» ≤ 8) × (r .«kind_count» ≤ 32) × (r .«node_count» ≤ 16) ⌝ }
+    ensures { λ r. ⌜ ((loggers kinds : List ℕ) (nodes : List (List ℕ)) → answerOf r loggers kinds nodes ≡ refused (numberOf fault) place)
+        × (r .«logger_count» ≤ 8) × (r .«kind_count» ≤ 32) × (r .«node_count» ≤ 16) ⌝ }
 {
     PlanRead {
         fault,
@@ -411,7 +416,8 @@ pub fn read_plan(
     kinds: &mut [u16; 32],
     nodes: &mut [[u16; 4]; 16],
 ) -> PlanRead
-    ensures { λ r. ⌜ (answerOf r (now (loggers .exit)) (now (kinds .exit)) (now (nodes .exit)) ≡ readPlan (now (bytes .entry))) × (r .«logger_count» ≤ 8) × (r .«kind_count» ≤ 32) × (r .«node_count» ≤ 16) ⌝ }
+    ensures { λ r. ⌜ (answerOf r (now (loggers .exit)) (now (kinds .exit)) (now (nodes .exit)) ≡ readPlan (now (bytes .entry)))
+        × (r .«logger_count» ≤ 8) × (r .«kind_count» ≤ 32) × (r .«node_count» ≤ 16) ⌝ }
 {
     let c = read_clocks(bytes, 0);
     let fault = c.fault;

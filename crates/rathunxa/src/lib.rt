@@ -12,7 +12,9 @@ use working::Answer;
 
 #[no_mangle]
 pub extern "C" fn rathunxa_work(plan: &[u8], passage: &[u8], output: &mut [u8]) -> Answer
-    ensures answers { λ r. ⌜ Answers (worked (now (plan .entry)) (now (passage .entry)) (length (now (output .entry)))) (now (output .entry)) r (now (output .exit)) ⌝ }
+    ensures answers { λ r. ⌜ Answers
+        (worked (now (plan .entry)) (now (passage .entry)) (length (now (output .entry))))
+        (now (output .entry)) r (now (output .exit)) ⌝ }
     ensures latest { λ r. ⌜ LatestExact (now (plan .entry)) (now (passage .entry)) (r .findings) (take (r .bytes) (now (output .exit))) ⌝ }
 {
     gateway::work(plan, passage, output)
