@@ -87,7 +87,7 @@
  *  - While a call runs, nobody else may write to what it was lent.
  *  - Answers are returned by value.
  *  - A call runs on the caller's stack: rathunxa_work() takes at most
- *    RATHUNXA_STACK bytes of it, the other calls less. It clears up to 18
+ *    RATHUNXA_STACK bytes of it, the other calls less. It clears up to 19
  *    kilobytes there first.
  *
  *  @section traps Traps
@@ -159,7 +159,7 @@ extern "C" {
 /** The logger place of a blank timestamp; its tick is 0. */
 #define RATHUNXA_BLANK_LOGGER 255
 /** The stack bytes that rathunxa_work() may take. Measured and not proved: on
- *  x86-64 the deepest call took about 28,100. */
+ *  x86-64 the deepest call took about 21,200. */
 #define RATHUNXA_STACK 32768
 /** @} */
 

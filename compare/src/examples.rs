@@ -42,6 +42,8 @@ pub fn examples() -> Vec<Example> {
         example("eight-findings", &plan_p(CONTINUOUS), &[lefts(8), vec![at(9, 2, 300)]].concat()),
         example("ninth-finding", &plan_p(CONTINUOUS), &[lefts(9), vec![at(9, 2, 300)]].concat()),
         example("output-end", &crowded_plan(), &lefts(128)),
+        example("output-exact", &filling_plan(), &filling_reports(13)),
+        example("output-two-over", &filling_plan(), &filling_reports(14)),
         example("no-events", &plan_p(RECENT), &[]),
         Example { name: "no-bytes", plan: plan_p(RECENT).bytes(), passage: Vec::new() },
         example("bridge-travel", &bridge_plan(), &bridge_reports([0, 1, 2, 3, 4])),
@@ -74,6 +76,22 @@ fn lefts(count: u64) -> Vec<EventEntry> {
 /// Sixteen nodes that each pass every report of kind 7 on twice.
 fn crowded_plan() -> PlanFile {
     PlanFile { nodes: vec![node(OR, RECENT, 0, 0); 16], ..plan_p(RECENT) }
+}
+
+/// Nine nodes that each pass every report of kind 8 on twice: 18 findings of 18 bytes. The tenth puts all reports of
+/// kind 7 together when kind 9 comes: one finding of 18 bytes, and two more for each of kind 7.
+fn filling_plan() -> PlanFile {
+    let (seven, eight, nine) = (0, 1, 2);
+    let mut nodes = vec![node(OR, RECENT, eight, eight); 9];
+    nodes.push(node(SEQ, CUMULATIVE, seven, nine));
+    PlanFile { kinds: vec![7, 8, 9], nodes, ..plan_p(RECENT) }
+}
+
+/// The findings of 101 reports of kind 8 take 32,724 bytes. The last finding takes the other 44 of 32,768 where 13 of
+/// kind 7 wait, and two bytes too many where 14 do.
+fn filling_reports(sevens: u64) -> Vec<EventEntry> {
+    let eights = (0..101).map(|i| at(8, 1, 100 + i)).collect();
+    [lefts(sevens), eights, vec![at(9, 2, 300)]].concat()
 }
 
 /// A bridge of four spans: logger n and kind n are those of span n.

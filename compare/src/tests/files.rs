@@ -94,6 +94,16 @@ fn output_of_19_bytes_gives_33_and_nothing_is_written() {
     assert_eq!(last_line("output-end"), "end 33 56 1820 32760");
 }
 
+/// What the listing programs lend is just enough for the one, and not for the other. Every finding has an even size, so
+/// no passage tells 32,769 bytes from 32,768.
+#[test]
+fn output_of_32768_bytes_is_filled_and_two_more_give_33() {
+    assert_eq!(last_line("output-exact"), "end 0 0 1819 32768");
+    assert_eq!(last_line("output-two-over"), "end 33 115 1818 32724");
+    let two_over = &examples().into_iter().find(|example| example.name == "output-two-over").expect("it is there");
+    assert_eq!(work(&two_over.plan, &two_over.passage, &mut [0; OUTPUT + 2]), answer(0, 0, 1819, 32_770));
+}
+
 #[test]
 fn a_finding_past_both_limits_gives_32() {
     let lefts: Vec<EventEntry> = (0..9).map(|i| EventEntry { kind: 7, logger: 1, tick: 80 + i }).collect();

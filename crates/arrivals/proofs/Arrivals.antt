@@ -2,7 +2,7 @@
 use mathlib.Core.Bool.{Bool, true, false, not}
 use mathlib.Core.List.{List, [], _∷_}
 use mathlib.Core.Path.{_≡_, refl, ap, _∙_}
-use Prim.Native.Nat.{ℕ, min}
+use Prim.Native.Nat.{ℕ}
 use native.Mathlib.Omega.{arith}
 use lib.Dec.{eqb}
 use lib.ListN.{length}
@@ -78,12 +78,12 @@ unfolding joinsBy
 joins-recent context candidates h = rw (eq-eqb context 1 h)
 
 -- of as many as wait on the other side
-any-waits : (n : ℕ) (l : List Occurrence) → length l ≡ min n 16 → eqb n 0 ≡ not (any (λ b. b) (andCandidates l))
+any-waits : (n : ℕ) (l : List Occurrence) → length l ≡ n → eqb n 0 ≡ not (any (λ b. b) (andCandidates l))
 unfolding andCandidates padded any
 any-waits n [] h = eq-eqb n 0 (omega arith)
 any-waits n (w ∷ l) h = ne-eqb n 0 (λ e. omega (arith, e))
 
-pub joins-other : (context n : ℕ) (l : List Occurrence) → (context ≡ 1 → ⊥) → length l ≡ min n 16 → eqb n 0 ≡ joinsBy context (andCandidates l)
+pub joins-other : (context n : ℕ) (l : List Occurrence) → (context ≡ 1 → ⊥) → length l ≡ n → eqb n 0 ≡ joinsBy context (andCandidates l)
 unfolding joinsBy
 joins-other context n l h many = rw (ne-eqb context 1 h) (any-waits n l many)
 

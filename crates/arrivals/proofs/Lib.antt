@@ -1,3 +1,4 @@
 pub mod Arrivals
 pub mod Each
+pub mod Growth
 pub mod Views

@@ -4,7 +4,7 @@ use mathlib.Core.Bool.{Bool, true, false}
 use mathlib.Core.List.{List, []}
 use Prim.Native.Nat.{ℕ, _+_, _≤_, _<_}
 use native.Mathlib.Omega.{arith}
-use lib.ListN.{drop, getD, length, take}
+use lib.ListN.{drop, getD, length}
 use Rattle.sequences.specs.Loops.{fold}
 use Rattle.sequences.specs.Marks.{marked}
 use Rattle.sequences.proofs.Loops.{fold-none}
@@ -12,8 +12,10 @@ use Rattle.sequences.proofs.Marks.{marked-end}
 use Rattle.occurrences.specs.declared.Occurrence.{Occurrence}
 use Rattle.occurrences.specs.Combination.{combinedOf}
 use Rattle.occurrences.specs.Occurrences.{blank}
-use Rattle.occurrences.specs.Packed.{Holds, Notes, Stands}
-use Rattle.occurrences.proofs.Rows.{holds-at, holds-length}
+use Rattle.occurrences.specs.Packed.{Notes, Stands}
+use Rattle.waiting_lists.specs.declared.WaitingList.{WaitingList}
+use Rattle.waiting_lists.specs.Lists.{Waits, listOf, placeIn}
+use Rattle.waiting_lists.proofs.Waits.{read-at, read-length}
 use Rattle.contexts.proofs.Steps.{combined-no, combined-yes}
 
 -- c stands for what is combined so far
@@ -22,37 +24,37 @@ pub record Left {ticks globals : List ℕ} (t : Notes ticks globals) (l : List O
   pub stands : Stands t c so-far
   pub same : fold (combinedOf (t .clocks)) (marked (drop i l) (drop i m)) so-far ≡ fold (combinedOf (t .clocks)) (marked l m) x
 
-abbrev pub Combines : (ticks globals : List ℕ) (row : List (List ℕ)) (n : ℕ) (m : List Bool) (o c : List ℕ) (i : ℕ) → Type 0
-Combines ticks globals row n m o c i = (t : Notes ticks globals) (l : List Occurrence) (x : Occurrence) → Holds t row n l → Stands t o x → Left t l m x c i
+abbrev pub Combines : (ticks globals : List ℕ) (w : List (List ℕ)) (m : List Bool) (o c : List ℕ) (i : ℕ) → Type 0
+Combines ticks globals w m o c i = (t : Notes ticks globals) (l : List Occurrence) (x : Occurrence) → Waits t w l → Stands t o x → Left t l m x c i
 
-module _ (ticks globals : List ℕ) (row : List (List ℕ)) (n : ℕ) (m : List Bool) (o : List ℕ) where
-  pub combines-start : Combines ticks globals row n m o o 0
+module _ (ticks globals : List ℕ) (w : List (List ℕ)) (m : List Bool) (o : List ℕ) where
+  pub combines-start : Combines ticks globals w m o o 0
   combines-start t l x h p = record { so-far = x; stands = p; same = refl }
 
-  module _ (c : List ℕ) (i : ℕ) where
-    module _ (in-row : i < length (take n row)) (in-m : i < length m) where
-      in-l : (t : Notes ticks globals) (l : List Occurrence) → Holds t row n l → i < length l
-      in-l t l h = omega (arith, holds-length t row n l h, in-row)
+  module _ (list : WaitingList) (is : list ≡ listOf w) (c : List ℕ) (i : ℕ) where
+    module _ (waits : i < list .len) (in-m : i < length m) where
+      in-l : (t : Notes ticks globals) (l : List Occurrence) → Waits t w l → i < length l
+      in-l t l h = omega (arith, read-length t w l h list is, waits)
 
-      pub combines-yes : (d : List ℕ) → getD m i false ≡ true
-          → ((t : Notes ticks globals) (x y : Occurrence) → Stands t c x → Stands t (getD row i []) y → Stands t d (combinedOf (t .clocks) x y))
-          → Combines ticks globals row n m o c i → Combines ticks globals row n m o d (i + 1)
-      combines-yes d e f g t l x h p =
+      pub combines-yes : (place : ℕ) (d : List ℕ) → place ≡ placeIn (list .order) i + 1 → getD m i false ≡ true
+          → ((t : Notes ticks globals) (x y : Occurrence) → Stands t c x → Stands t (getD w place []) y → Stands t d (combinedOf (t .clocks) x y))
+          → Combines ticks globals w m o c i → Combines ticks globals w m o d (i + 1)
+      combines-yes place d at e f g t l x h p =
           let r = g t l x h p in
           record {
             so-far = combinedOf (t .clocks) (r .so-far) (getD l i blank);
-            stands = f t (r .so-far) (getD l i blank) (r .stands) (holds-at t row n l h i (in-l t l h));
+            stands = f t (r .so-far) (getD l i blank) (r .stands) (read-at t w l h list is i place at waits);
             same = combined-yes l m i (in-l t l h) in-m (combinedOf (t .clocks)) (r .so-far) _ e refl ∙ r .same;
           }
 
-      pub combines-no : getD m i false ≡ false → Combines ticks globals row n m o c i → Combines ticks globals row n m o c (i + 1)
+      pub combines-no : getD m i false ≡ false → Combines ticks globals w m o c i → Combines ticks globals w m o c (i + 1)
       combines-no e g t l x h p =
           let r = g t l x h p in
           record { so-far = r .so-far; stands = r .stands; same = combined-no l m i (in-l t l h) in-m (combinedOf (t .clocks)) (r .so-far) e ∙ r .same }
 
-    pub combines-end : length (take n row) ≤ i → Combines ticks globals row n m o c i
-        → (t : Notes ticks globals) (l : List Occurrence) (x : Occurrence) → Holds t row n l → Stands t o x → Stands t c (fold (combinedOf (t .clocks)) (marked l m) x)
+    pub combines-end : list .len ≤ i → Combines ticks globals w m o c i
+        → (t : Notes ticks globals) (l : List Occurrence) (x : Occurrence) → Waits t w l → Stands t o x → Stands t c (fold (combinedOf (t .clocks)) (marked l m) x)
     combines-end past g t l x h p =
         let r = g t l x h p in
-        let e = marked-end l m i (omega (arith, holds-length t row n l h, past)) in
+        let e = marked-end l m i (omega (arith, read-length t w l h list is, past)) in
         subst (Stands t c) (sym (ap (λ k. fold (combinedOf (t .clocks)) k (r .so-far)) e ∙ fold-none (combinedOf (t .clocks)) (r .so-far)) ∙ r .same) (r .stands)

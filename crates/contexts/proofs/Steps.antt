@@ -1,5 +1,5 @@
 -- What each function's steps come to.
-use mathlib.Core.Path.{_≡_, refl, sym, ap, ap₂, _∙_}
+use mathlib.Core.Path.{_≡_, refl, sym, ap, ap₂, subst, _∙_}
 use mathlib.Core.Bool.{Bool, true, false, not, _&&_, and-false}
 use mathlib.Core.List.{List, [], _∷_, map, zipWith}
 use Prim.Native.Nat.{ℕ, zero, suc, _+_, _≤_, _<_}
@@ -25,6 +25,8 @@ use Rattle.occurrences.specs.Occurrences.{blank, isBefore}
 use Rattle.occurrences.specs.Steps.{Decided, LowestOf}
 use Rattle.occurrences.proofs.Order.{not-before-itself}
 use Rattle.occurrences.proofs.Steps.{next-place}
+use Rattle.waiting_lists.specs.declared.WaitingList.{WaitingList}
+use Rattle.waiting_lists.specs.Lists.{listOf, placeIn}
 use Rattle.waiting_lists.specs.Marks.{marksOf}
 use Rattle.waiting_lists.proofs.Marks.{length-marks, marks-and, marks-less, marks-turn, padded-next}
 use Rattle.contexts.specs.declared.Row.{Row}
@@ -96,10 +98,20 @@ decided-is d t h e = elim (ℕ-discrete d 1) [
 ]
 
 -- the lowest of one more
-pub lows-turn : (globals : List ℕ) (list : List (List ℕ)) (lows : List ℕ) (i v : ℕ) → i < length lows → LowestOf globals (getD list i []) v → Lows globals list i lows → Lows globals list (i + 1) (set lows i v)
-lows-turn globals list lows i v h e l = next-place (λ j. LowestOf globals (getD list j []) (getD (set lows i v) j 0)) i
+pub lows-turn : (globals : List ℕ) (w : List (List ℕ)) (lows : List ℕ) (list : WaitingList) (i place v : ℕ) → list ≡ listOf w → place ≡ placeIn (list .order) i + 1 → i < length lows
+    → LowestOf globals (getD w place []) v → Lows globals w i lows → Lows globals w (i + 1) (set lows i v)
+lows-turn globals w lows list i place v is p h e l =
+    let q : place ≡ placeIn (listOf w .order) i + 1 = p ∙ ap (λ (x : WaitingList). placeIn (x .order) i + 1) is in
+    next-place (λ j. LowestOf globals (getD w (placeIn (listOf w .order) j + 1) []) (getD (set lows i v) j 0)) i
     (λ j m. rw (getD-set-other lows i j v 0 (λ d. omega (arith, d, m))) (l j m))
-    (rw (getD-set-same lows i v 0 h) e)
+    (rw (getD-set-same lows i v 0 h, ← q) e)
+
+-- what is kept of one that the code reads
+pub lows-at : (globals : List ℕ) (w : List (List ℕ)) (lows : List ℕ) (list : WaitingList) (n i place : ℕ) → list ≡ listOf w → place ≡ placeIn (list .order) i + 1 → i < n → Lows globals w n lows
+    → LowestOf globals (getD w place []) (getD lows i 0)
+lows-at globals w lows list n i place is p h l =
+    let q : place ≡ placeIn (listOf w .order) i + 1 = p ∙ ap (λ (x : WaitingList). placeIn (x .order) i + 1) is in
+    subst (λ (m : ℕ). LowestOf globals (getD w m []) (getD lows i 0)) (sym q) (l i h)
 
 -- a candidate is taken where no candidate bars it
 takes-unbarred : (t : Taken) (clocks : Clocks) (candidates : List Occurrence) (w : Occurrence) → not (any (barsOf t clocks w) candidates) ≡ takes t clocks candidates w

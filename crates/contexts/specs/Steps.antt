@@ -1,12 +1,13 @@
 -- What the functions compute step by step. Readers of the promises need none of these: the laws tie each to the definitions beside this file.
 use mathlib.Core.Bool.{Bool, false}
 use mathlib.Core.List.{List, []}
-use Prim.Native.Nat.{ℕ, _<_}
+use Prim.Native.Nat.{ℕ, _+_, _<_}
 use lib.ListN.{getD}
 use Rattle.timestamps.specs.Order.{Clocks}
 use Rattle.occurrences.specs.declared.Occurrence.{Occurrence}
 use Rattle.occurrences.specs.Occurrences.{isBefore}
 use Rattle.occurrences.specs.Steps.{LowestOf}
+use Rattle.waiting_lists.specs.Lists.{listOf, placeIn}
 use Rattle.contexts.specs.Table.{Taken, latest, earliest, every}
 
 -- candidate c keeps w from being taken
@@ -15,6 +16,6 @@ barsOf latest clocks w c = isBefore clocks w c
 barsOf earliest clocks w c = isBefore clocks c w
 barsOf every clocks w c = false
 
--- the lowest global tick of each of the first n
+-- the lowest global tick of each of the first n that wait
 abbrev pub Lows : List ℕ → List (List ℕ) → ℕ → List ℕ → Type 0
-Lows globals list n lows = (i : ℕ) → i < n → LowestOf globals (getD list i []) (getD lows i 0)
+Lows globals w n lows = (i : ℕ) → i < n → LowestOf globals (getD w (placeIn (listOf w .order) i + 1) []) (getD lows i 0)

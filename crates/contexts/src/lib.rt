@@ -4,17 +4,18 @@ use timestamps::GlobalTick;
 ghost use mathlib.Core.Bool.{_&&_, false, not, true};
 ghost use mathlib.Core.List.{List, []};
 ghost use mathlib.Core.Path.{_≡_};
-ghost use Prim.Native.Nat.{ℕ, min, _<_, _≤_};
+ghost use Prim.Native.Nat.{ℕ, _<_, _≤_};
 ghost use lib.Dec.{eqb};
-ghost use lib.ListN.{getD, length, take};
+ghost use lib.ListN.{getD, length};
 ghost use Rattle.sequences.specs.Loops.{fold};
 ghost use Rattle.sequences.specs.Marks.{marked};
 ghost use Rattle.sequences.specs.Select.{any};
 ghost use Rattle.occurrences.specs.declared.Occurrence.{Occurrence};
 ghost use Rattle.occurrences.specs.Combination.{combinedOf};
 ghost use Rattle.occurrences.specs.Occurrences.{blank, isBefore};
-ghost use Rattle.occurrences.specs.Packed.{Arrives, Holds, Known, Notes, Stands, Within};
-ghost use Rattle.occurrences.specs.Steps.{Decided, Inside, LowestOf};
+ghost use Rattle.occurrences.specs.Packed.{Notes, Stands, Within};
+ghost use Rattle.occurrences.specs.Steps.{Decided, LowestOf};
+ghost use Rattle.waiting_lists.specs.Lists.{Arrives, Known, Waits, listOf};
 ghost use Rattle.waiting_lists.specs.Marks.{marksOf};
 ghost use Rattle.contexts.specs.Choice.{andCandidates, chosen, removedOf, seqCandidates, takenOf, takes};
 ghost use Rattle.contexts.specs.Steps.{Lows, barsOf};
@@ -122,25 +123,21 @@ fn comes_before(
 }
 
 // SEQ: those whose timestamp is before the arrival's.
-pub fn before_arrival(
-    list: &[Packed; 16],
-    waiting: usize,
-    o: &Packed,
-    ticks: &[u64],
-    globals: &[u64],
-) -> u64
-    requires { ⌜ Arrives (now ticks) (now globals) (now list) waiting (now o) ⌝ }
+pub fn before_arrival(list: &[Packed], o: &Packed, ticks: &[u64], globals: &[u64]) -> u64
+    requires { ⌜ Arrives (now ticks) (now globals) (now list) (now o) ⌝ }
     ensures { λ r. ⌜ ((t : Notes (now (ticks .entry)) (now (globals .entry))) (l : List Occurrence) (x : Occurrence)
-        → Holds t (now (list .entry)) waiting l → Stands t (now (o .entry)) x
+        → Waits t (now (list .entry)) l → Stands t (now (o .entry)) x
         → marksOf r ≡ seqCandidates (t .clocks) l x) ⌝ }
 {
     let first = occurrences::lowest(o, globals);
-    let n = waiting_lists::count_in(list, waiting);
+    let waiting = waiting_lists::list_of(list);
+    let n = waiting.len;
     let mut marks: u64 = 0;
     let mut i: usize = 0;
     while i < n {
-        let low = occurrences::lowest(&list[i], globals);
-        let is = comes_before(low, first, &list[i], o, ticks, globals);
+        let place = waiting_lists::place_at(waiting, i);
+        let low = occurrences::lowest(&list[place], globals);
+        let is = comes_before(low, first, &list[place], o, ticks, globals);
         marks = waiting_lists::with_mark(marks, i, is);
         i = i + 1;
     }
@@ -148,10 +145,10 @@ pub fn before_arrival(
 }
 
 // AND: all that wait on the other side.
-pub fn all_waiting(waiting: usize) -> u64
-    ensures { λ r. ⌜ ((l : List Occurrence) → length l ≡ min waiting 16 → marksOf r ≡ andCandidates l) ⌝ }
+pub fn all_waiting(n: usize) -> u64
+    requires { ⌜ n ≤ 16 ⌝ }
+    ensures { λ r. ⌜ ((l : List Occurrence) → length l ≡ n → marksOf r ≡ andCandidates l) ⌝ }
 {
-    let n = waiting_lists::count(waiting);
     (1 << n) - 1
 }
 
@@ -163,15 +160,18 @@ pub struct Choice {
     pub removed: u64,
 }
 
-// The lowest global tick of each of the first n, filled in: an array handed back by value would be copied.
-fn lows_of(list: &[Packed; 16], n: usize, globals: &[u64], lows: &mut [u64; 16])
-    requires { ⌜ (n ≤ 16) × ((i : ℕ) → i < n → Inside 8 (now globals) (getD (getD (now list) i []) 2 0)) ⌝ }
-    ensures { λ _. ⌜ (getD (now (globals .entry)) 0 0 ≡ 0 → Lows (now (globals .entry)) (now (list .entry)) n (now (lows .exit))) ⌝ }
+// The lowest global tick of each that waits, filled in: an array handed back by value would be copied.
+fn lows_of(list: &[Packed], ticks: &[u64], globals: &[u64], lows: &mut [u64; 16])
+    requires { ⌜ Known (now ticks) (now globals) (now list) ⌝ }
+    ensures { λ _. ⌜ Lows (now (globals .entry)) (now (list .entry)) (listOf (now (list .entry)) .len) (now (lows .exit)) ⌝ }
 {
+    let waiting = waiting_lists::list_of(list);
+    let n = waiting.len;
     let places = lows[..].len();
     let mut i: usize = 0;
     while i < n {
-        let low = occurrences::lowest(&list[i], globals);
+        let place = waiting_lists::place_at(waiting, i);
+        let low = occurrences::lowest(&list[place], globals);
         lows[i] = low.0;
         i = i + 1;
     }
@@ -260,29 +260,31 @@ fn is_other(candidates: u64, i: usize, j: usize) -> bool
 fn barred(
     rule: u8,
     i: usize,
-    list: &[Packed; 16],
+    list: &[Packed],
     lows: &[u64; 16],
-    waiting: usize,
     candidates: u64,
     ticks: &[u64],
     globals: &[u64],
 ) -> bool
-    requires { ⌜ (i < length (take waiting (now list))) × Known (now ticks) (now globals) (now list) waiting ⌝ }
+    requires { ⌜ (i < listOf (now list) .len) × Known (now ticks) (now globals) (now list) ⌝ }
     ensures { λ r. ⌜ ((t : Notes (now (ticks .entry)) (now (globals .entry))) (l : List Occurrence)
-        → Holds t (now (list .entry)) waiting l → Lows (now (globals .entry)) (now (list .entry)) (length l) (now (lows .entry))
+        → Waits t (now (list .entry)) l → Lows (now (globals .entry)) (now (list .entry)) (length l) (now (lows .entry))
         → r ≡ any (barsOf (takesOf rule) (t .clocks) (getD l i blank)) (marked l (marksOf candidates))) ⌝ }
 {
-    let n = waiting_lists::count_in(list, waiting);
+    let waiting = waiting_lists::list_of(list);
+    let n = waiting.len;
+    let own = waiting_lists::place_at(waiting, i);
     let low = GlobalTick(lows[i]);
     let mut j: usize = 0;
     while j < n {
+        let place = waiting_lists::place_at(waiting, j);
         if bars(
             is_other(candidates, i, j),
             rule,
             low,
-            &list[i],
+            &list[own],
             GlobalTick(lows[j]),
-            &list[j],
+            &list[place],
             ticks,
             globals,
         ) {
@@ -298,59 +300,42 @@ fn is_taken(
     is: bool,
     rule: u8,
     i: usize,
-    list: &[Packed; 16],
+    list: &[Packed],
     lows: &[u64; 16],
-    waiting: usize,
     candidates: u64,
     ticks: &[u64],
     globals: &[u64],
 ) -> bool
-    requires { ⌜ (i < length (take waiting (now list))) × Known (now ticks) (now globals) (now list) waiting ⌝ }
+    requires { ⌜ (i < listOf (now list) .len) × Known (now ticks) (now globals) (now list) ⌝ }
     ensures { λ r. ⌜ ((t : Notes (now (ticks .entry)) (now (globals .entry))) (l : List Occurrence)
-        → Holds t (now (list .entry)) waiting l → Lows (now (globals .entry)) (now (list .entry)) (length l) (now (lows .entry))
+        → Waits t (now (list .entry)) l → Lows (now (globals .entry)) (now (list .entry)) (length l) (now (lows .entry))
         → r ≡ (is && takes (takesOf rule) (t .clocks) (marked l (marksOf candidates)) (getD l i blank))) ⌝ }
 {
     if !is {
         false
     } else {
-        !barred(rule, i, list, lows, waiting, candidates, ticks, globals)
+        !barred(rule, i, list, lows, candidates, ticks, globals)
     }
 }
 
 // Those that a rule takes of the candidates.
-fn taken_by(
-    rule: u8,
-    list: &[Packed; 16],
-    waiting: usize,
-    candidates: u64,
-    ticks: &[u64],
-    globals: &[u64],
-) -> u64
-    requires { ⌜ Known (now ticks) (now globals) (now list) waiting ⌝ }
-    ensures { λ r. ⌜ ((t : Notes (now (ticks .entry)) (now (globals .entry))) (l : List Occurrence) → Holds t (now (list .entry)) waiting l
+fn taken_by(rule: u8, list: &[Packed], candidates: u64, ticks: &[u64], globals: &[u64]) -> u64
+    requires { ⌜ Known (now ticks) (now globals) (now list) ⌝ }
+    ensures { λ r. ⌜ ((t : Notes (now (ticks .entry)) (now (globals .entry))) (l : List Occurrence) → Waits t (now (list .entry)) l
         → marksOf r ≡ takenOf (takesOf rule) (t .clocks) l (marksOf candidates)) ⌝ }
 {
-    let n = waiting_lists::count_in(list, waiting);
+    let waiting = waiting_lists::list_of(list);
+    let n = waiting.len;
     if Row::EVERY <= rule {
         return candidates & all_waiting(n);
     }
     let mut lows = [0u64; 16];
-    lows_of(list, n, globals, &mut lows);
+    lows_of(list, ticks, globals, &mut lows);
     let mut marks: u64 = 0;
     let mut i: usize = 0;
     while i < n {
         let is = waiting_lists::is_marked(candidates, i);
-        let taken = is_taken(
-            is,
-            rule,
-            i,
-            list,
-            &lows,
-            waiting,
-            candidates,
-            ticks,
-            globals,
-        );
+        let taken = is_taken(is, rule, i, list, &lows, candidates, ticks, globals);
         marks = waiting_lists::with_mark(marks, i, taken);
         i = i + 1;
     }
@@ -373,19 +358,18 @@ fn removed_by(rule: u8, candidates: u64, taken: u64) -> u64
 // What a context takes and removes of the candidates of a waiting list.
 pub fn choose(
     context: u64,
-    list: &[Packed; 16],
-    waiting: usize,
+    list: &[Packed],
     candidates: u64,
     ticks: &[u64],
     globals: &[u64],
 ) -> Choice
-    requires { ⌜ Known (now ticks) (now globals) (now list) waiting ⌝ }
-    ensures { λ r. ⌜ ((t : Notes (now (ticks .entry)) (now (globals .entry))) (l : List Occurrence) → Holds t (now (list .entry)) waiting l
+    requires { ⌜ Known (now ticks) (now globals) (now list) ⌝ }
+    ensures { λ r. ⌜ ((t : Notes (now (ticks .entry)) (now (globals .entry))) (l : List Occurrence) → Waits t (now (list .entry)) l
         → (marksOf (r .taken) ≡ chosen (rowOf context) (t .clocks) l (marksOf candidates) .taken)
         × (marksOf (r .removed) ≡ chosen (rowOf context) (t .clocks) l (marksOf candidates) .removed)) ⌝ }
 {
     let row = row_of(context);
-    let taken = taken_by(row.taken, list, waiting, candidates, ticks, globals);
+    let taken = taken_by(row.taken, list, candidates, ticks, globals);
     let removed = removed_by(row.removed, candidates, taken);
     Choice {
         taken: taken,
@@ -405,25 +389,26 @@ pub fn makes_each(context: u64) -> bool
 
 // The arrival combined with all taken, in waiting order.
 pub fn all_combined(
-    list: &[Packed; 16],
-    waiting: usize,
+    list: &[Packed],
     taken: u64,
     o: &Packed,
     ticks: &[u64],
     globals: &[u64],
 ) -> Packed
-    requires { ⌜ Arrives (now ticks) (now globals) (now list) waiting (now o) ⌝ }
+    requires { ⌜ Arrives (now ticks) (now globals) (now list) (now o) ⌝ }
     ensures { λ r. ⌜ ((t : Notes (now (ticks .entry)) (now (globals .entry))) (l : List Occurrence) (x : Occurrence)
-        → Holds t (now (list .entry)) waiting l → Stands t (now (o .entry)) x
+        → Waits t (now (list .entry)) l → Stands t (now (o .entry)) x
         → Stands t r (fold (combinedOf (t .clocks)) (marked l (marksOf taken)) x)) ⌝ }
 {
-    let n = waiting_lists::count_in(list, waiting);
+    let waiting = waiting_lists::list_of(list);
+    let n = waiting.len;
     let mut all = *o;
     let mut i: usize = 0;
     while i < n {
         let next = i + 1;
         if waiting_lists::is_marked(taken, i) {
-            all = occurrences::combined(&all, &list[i], ticks, globals);
+            let place = waiting_lists::place_at(waiting, i);
+            all = occurrences::combined(&all, &list[place], ticks, globals);
         }
         i = next;
     }

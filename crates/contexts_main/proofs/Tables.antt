@@ -3,10 +3,12 @@ use mathlib.Core.List.{List, [], _∷_}
 use mathlib.Core.Path.{_≡_, refl}
 use Prim.Native.Nat.{ℕ, zero, suc, _<_, _+_}
 use native.Mathlib.Omega.{arith}
-use lib.ListN.{getD}
+use lib.ListN.{getD, replicate}
 use Rattle.timestamps.specs.declared.Timestamp.{Timestamp}
 use Rattle.timestamps.specs.Order.{blank, clocksOf, globalOf}
 use Rattle.occurrences.specs.Packed.{Notes}
+use Rattle.waiting_lists.specs.Lists.{Waits}
+use Rattle.waiting_lists.proofs.Waits.{waits-none}
 
 abbrev pub five : List Timestamp
 five = record { logger = 1; tick = record { 0 = 80 } } ∷ record { logger = 1; tick = record { 0 = 95 } } ∷ record { logger = 2; tick = record { 0 = 120 } } ∷ record { logger = 3; tick = record { 0 = 100 } } ∷ record { logger = 2; tick = record { 0 = 300 } } ∷ []
@@ -45,3 +47,10 @@ noted = record {
   tick = tick-of;
   global = global-of;
 }
+
+-- a row of 17 that is cleared: nothing waits
+abbrev pub cleared : List (List ℕ)
+cleared = replicate 17 (0 ∷ 0 ∷ 0 ∷ [])
+
+pub none-wait : Waits noted cleared []
+none-wait = waits-none noted cleared (omega arith) (omega arith) refl

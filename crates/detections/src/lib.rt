@@ -18,6 +18,9 @@ ghost use Rattle.detections.specs.Views.{writtenBytes, writtenStamps};
 ghost use Rattle.detections.specs.Writing.{Wrote};
 ghost use Rattle.detections.specs.Steps.{bitsFrom, namedBytes, oneIf, stampBytes};
 
+// The plan's logger numbers by logger place, 0 where there is none.
+pub type LoggerNumbers = [u64; 8];
+
 // A stamp as it is written: the number of its logger, and its local tick.
 pub struct Stamp {
     pub logger: u64,
@@ -116,7 +119,13 @@ fn put_stamp(out: &mut [u8], at: usize, logger: u64, event: usize, ticks: &[u64]
 }
 
 // The stamps of the events that the bytes of a packed number name, from the lowest byte on.
-fn put_named(out: &mut [u8], at: usize, packed: u64, ticks: &[u64], loggers: &[u64; 8]) -> usize
+fn put_named(
+    out: &mut [u8],
+    at: usize,
+    packed: u64,
+    ticks: &[u64],
+    loggers: &LoggerNumbers,
+) -> usize
     requires { ⌜ Inside 8 (now ticks) packed × (getD (now ticks) 0 0 ≡ 0)
         × (at + length (namedBytes (now ticks) (now loggers) 8 0 packed) ≤ length (now out)) ⌝ }
     ensures { λ r. ⌜ Wrote (now (out .entry)) at (namedBytes (now (ticks .entry)) (now (loggers .entry)) 8 0 packed) r (now (out .exit)) ⌝ }
@@ -134,7 +143,13 @@ fn put_named(out: &mut [u8], at: usize, packed: u64, ticks: &[u64], loggers: &[u
 }
 
 // The stamps, by rising logger.
-fn put_stamps(out: &mut [u8], at: usize, o: &Packed, ticks: &[u64], loggers: &[u64; 8]) -> usize
+fn put_stamps(
+    out: &mut [u8],
+    at: usize,
+    o: &Packed,
+    ticks: &[u64],
+    loggers: &LoggerNumbers,
+) -> usize
     requires { ⌜ Inside 8 (now ticks) (getD (now o) 2 0) × (getD (now ticks) 0 0 ≡ 0)
         × (at + length (each stamp (writtenStamps (now ticks) (now loggers) (now o))) ≤ length (now out)) ⌝ }
     ensures { λ r. ⌜ Wrote (now (out .entry)) at (each stamp (writtenStamps (now (ticks .entry)) (now (loggers .entry)) (now (o .entry))))
@@ -149,7 +164,7 @@ fn put_stamp_section(
     at: usize,
     o: &Packed,
     ticks: &[u64],
-    loggers: &[u64; 8],
+    loggers: &LoggerNumbers,
 ) -> usize
     requires { ⌜ Inside 8 (now ticks) (getD (now o) 2 0) × (getD (now ticks) 0 0 ≡ 0)
         × (at + length (sectionBytes stamp (writtenStamps (now ticks) (now loggers) (now o))) ≤ length (now out)) ⌝ }
@@ -204,7 +219,7 @@ pub fn write(
     node: u64,
     o: &Packed,
     ticks: &[u64],
-    loggers: &[u64; 8],
+    loggers: &LoggerNumbers,
 ) -> usize
     requires { ⌜ Inside 8 (now ticks) (getD (now o) 2 0) × (getD (now ticks) 0 0 ≡ 0)
         × (at + length (writtenBytes (now ticks) (now loggers) node (now o)) ≤ length (now out)) ⌝ }

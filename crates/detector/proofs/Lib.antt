@@ -1,4 +1,5 @@
 pub mod Answers
+pub mod Clear
 pub mod Events
 pub mod Rows
 pub mod Turned

@@ -1,4 +1,5 @@
 // What a node makes from one event: findings to the output and to later nodes, until a limit ends the work.
+use detections::LoggerNumbers;
 use occurrences::Packed;
 ghost use mathlib.Core.List.{List};
 ghost use mathlib.Core.Path.{_≡_};
@@ -17,6 +18,9 @@ pub enum Limit {
     NodeFull,
     OutputFull,
 }
+
+// What a node makes from one event: at most eight.
+pub type Made = [Packed; 8];
 
 // The number of the limit that ended the work, 0 for none; how many findings a node has made from this event, in a row of eight that is lent; all findings
 // of the passage; and the place after the bytes written.
@@ -60,11 +64,11 @@ fn stopped(e: Emit, limit: Limit) -> Emit
 // One finding: 32 where this node has made eight from this event, then 33 where it does not fit whole in the output left.
 pub fn emit_one(
     e: Emit,
-    made: &mut [Packed; 8],
+    made: &mut Made,
     place: u64,
     o: &Packed,
     ticks: &[u64],
-    loggers: &[u64; 8],
+    loggers: &LoggerNumbers,
     out: &mut [u8],
 ) -> Emit
     requires { ⌜ Inside 8 (now ticks) (getD (now o) 2 0) × (getD (now ticks) 0 0 ≡ 0) × (e .at ≤ length (now out)) × (e .findings ≤ e .at) ⌝ }

@@ -1,5 +1,11 @@
 // File working: a passage under a plan, both from their bytes, into a lent output.
-use occurrences::Packed;
+use detections::LoggerNumbers;
+use passages::Places;
+use plans::Kinds;
+use plans::Loggers;
+use plans::Nodes;
+use working::Answer;
+ghost use mathlib.Core.Bool.{true};
 ghost use mathlib.Core.List.{List};
 ghost use mathlib.Core.Path.{_≡_};
 ghost use Prim.Native.Nat.{ℕ, min, _+_, _≤_};
@@ -9,11 +15,10 @@ ghost use Rattle.plans.specs.Views.{answerOf};
 ghost use Rattle.passages.specs.Views.{Room};
 ghost use Rattle.emissions.specs.Emissions.{reached};
 ghost use Rattle.progress.specs.Progress.{Progress};
-ghost use Rattle.detector.specs.Steps.{Says};
+ghost use Rattle.detector.specs.Steps.{Noticed, Runs, Says};
 ghost use Rattle.working.specs.Latest.{LatestExact};
 ghost use Rattle.working.specs.Working.{Answers, endOf, planWorked, turnedBack, worked};
 ghost use Rattle.gateway.specs.Steps.{PlanHeld};
-use working::Answer;
 
 // A file is turned back: no finding, no byte.
 fn turned_back(number: u64, place: usize) -> Answer
@@ -47,23 +52,204 @@ fn ended(run: detector::Run) -> Answer
     }
 }
 
-// Under the plan that was read, or its fault: the passage is checked whole, then its events are worked, in tables and in rows that are lent.
+// How many places a list that takes a kind is given, with the one for the list itself: as many as there are events, and 16 at most.
+fn most_places(count: usize) -> u16
+    ensures { λ r. ⌜ r ≡ min count 16 + 1 ⌝ }
+{
+    if count < 16 { count as u16 + 1 } else { 17 }
+}
+
+// Whether so many places are enough: on the left, on the right, and for what is made.
+fn fits(l: u16, lefts: u16, r: u16, rights: u16, m: u16, made: u16) -> bool
+    ensures { λ b. ⌜ (b ≡ true → (l ≤ lefts) × (r ≤ rights) × (m ≤ made)) ⌝ }
+{
+    if lefts < l {
+        return false;
+    }
+    if rights < r {
+        return false;
+    }
+    m <= made
+}
+
+// The events of a checked passage under its plan, with as many places for waiting lists and for what the nodes make as there is use for: all that is lent is
+// cleared first, which is most of the time of a short passage.
+fn run_in_rows(
+    numbers: &LoggerNumbers,
+    nodes: &Nodes,
+    n: usize,
+    count: usize,
+    kind_places: &Places,
+    logger_places: &Places,
+    ticks: &[u64],
+    globals: &[u64],
+    output: &mut [u8],
+) -> detector::Run
+    requires { ⌜ (n ≤ 16) × Noticed count (now «kind_places») (now «logger_places») (now ticks) (now globals) ⌝ }
+    ensures { λ r. ⌜ Runs (now (numbers .entry)) (now (nodes .entry)) n count (now («kind_places» .entry)) (now («logger_places» .entry))
+        (now (ticks .entry)) (now (globals .entry)) (now (output .entry)) r (now (output .exit)) ⌝ }
+{
+    let mut left_slot = [0u8; 16];
+    let mut right_slot = [0u8; 16];
+    let mut takers = [0u16; 50];
+    slots::slots_of(nodes, n, 2, &mut left_slot);
+    slots::slots_of(nodes, n, 3, &mut right_slot);
+    slots::takers(&left_slot, &right_slot, n, &mut takers);
+    let most = most_places(count);
+    let mut left_at = [0u16; 17];
+    let mut right_at = [0u16; 17];
+    let mut made_at = [0u16; 18];
+    slots::parts(
+        nodes,
+        n,
+        &left_slot,
+        &right_slot,
+        &takers,
+        most,
+        &mut left_at,
+        &mut right_at,
+        &mut made_at,
+    );
+    let l = left_at[n];
+    let r = right_at[n];
+    let m = made_at[n + 1];
+    if fits(l, 17, r, 17, m, 9) {
+        let mut lefts = [[0u64; 3]; 17];
+        let mut rights = [[0u64; 3]; 17];
+        let mut made = [[0u64; 3]; 9];
+        return detector::run_in(
+            numbers,
+            nodes,
+            n,
+            count,
+            kind_places,
+            logger_places,
+            ticks,
+            globals,
+            &left_slot,
+            &right_slot,
+            &takers,
+            &left_at,
+            &right_at,
+            &made_at,
+            &mut lefts,
+            &mut rights,
+            &mut made,
+            output,
+        );
+    }
+    if fits(l, 48, r, 32, m, 24) {
+        let mut lefts = [[0u64; 3]; 48];
+        let mut rights = [[0u64; 3]; 32];
+        let mut made = [[0u64; 3]; 24];
+        return detector::run_in(
+            numbers,
+            nodes,
+            n,
+            count,
+            kind_places,
+            logger_places,
+            ticks,
+            globals,
+            &left_slot,
+            &right_slot,
+            &takers,
+            &left_at,
+            &right_at,
+            &made_at,
+            &mut lefts,
+            &mut rights,
+            &mut made,
+            output,
+        );
+    }
+    if fits(l, 112, r, 40, m, 40) {
+        let mut lefts = [[0u64; 3]; 112];
+        let mut rights = [[0u64; 3]; 40];
+        let mut made = [[0u64; 3]; 40];
+        return detector::run_in(
+            numbers,
+            nodes,
+            n,
+            count,
+            kind_places,
+            logger_places,
+            ticks,
+            globals,
+            &left_slot,
+            &right_slot,
+            &takers,
+            &left_at,
+            &right_at,
+            &made_at,
+            &mut lefts,
+            &mut rights,
+            &mut made,
+            output,
+        );
+    }
+    if fits(l, 192, r, 104, m, 40) {
+        let mut lefts = [[0u64; 3]; 192];
+        let mut rights = [[0u64; 3]; 104];
+        let mut made = [[0u64; 3]; 40];
+        return detector::run_in(
+            numbers,
+            nodes,
+            n,
+            count,
+            kind_places,
+            logger_places,
+            ticks,
+            globals,
+            &left_slot,
+            &right_slot,
+            &takers,
+            &left_at,
+            &right_at,
+            &made_at,
+            &mut lefts,
+            &mut rights,
+            &mut made,
+            output,
+        );
+    }
+    let mut lefts = [[0u64; 3]; 272];
+    let mut rights = [[0u64; 3]; 272];
+    let mut made = [[0u64; 3]; 136];
+    detector::run_in(
+        numbers,
+        nodes,
+        n,
+        count,
+        kind_places,
+        logger_places,
+        ticks,
+        globals,
+        &left_slot,
+        &right_slot,
+        &takers,
+        &left_at,
+        &right_at,
+        &made_at,
+        &mut lefts,
+        &mut rights,
+        &mut made,
+        output,
+    )
+}
+
+// Under the plan that was read, or its fault: the passage is checked whole, then its events are worked, in tables that are lent.
 fn work_under(
     read: plans::PlanRead,
-    loggers: &[u16; 8],
-    kinds: &[u16; 32],
-    nodes: &[[u16; 4]; 16],
+    loggers: &Loggers,
+    kinds: &Kinds,
+    nodes: &Nodes,
     passage: &[u8],
     output: &mut [u8],
     ticks: &mut [u64],
     globals: &mut [u64],
-    lefts: &mut [[Packed; 16]],
-    rights: &mut [[Packed; 16]],
-    made: &mut [[Packed; 8]],
 ) -> Answer
-    requires { ⌜ PlanHeld read (now loggers) (now kinds) × Room (now passage) (now ticks) × Room (now passage) (now globals)
-        × (min (read .«node_count») 16 ≤ length (now lefts)) × (min (read .«node_count») 16 ≤ length (now rights))
-        × (min (read .«node_count») 16 + 1 ≤ length (now made)) ⌝ }
+    requires { ⌜ PlanHeld read (now loggers) (now kinds) × Room (now passage) (now ticks) × Room (now passage) (now globals) ⌝ }
     ensures { λ r. ⌜ Answers
         (planWorked (length (now (output .entry))) (now (passage .entry))
         (answerOf read (now (loggers .entry)) (now (kinds .entry)) (now (nodes .entry))))
@@ -93,9 +279,9 @@ fn work_under(
     if !passage_fault.is_none() {
         return turned_back(passage_fault.number(), check.place);
     }
-    let run = detector::run_in(
-        loggers,
-        l,
+    let numbers = detector::numbers_by_place(loggers, l);
+    let run = run_in_rows(
+        &numbers,
         nodes,
         read.node_count,
         check.count,
@@ -103,91 +289,17 @@ fn work_under(
         &logger_places,
         ticks,
         globals,
-        lefts,
-        rights,
-        made,
         output,
     );
     ended(run)
 }
 
-// The same with rows as many as the plan has use for: what is worked in is cleared first.
-fn work_in_rows(
-    read: plans::PlanRead,
-    loggers: &[u16; 8],
-    kinds: &[u16; 32],
-    nodes: &[[u16; 4]; 16],
-    passage: &[u8],
-    output: &mut [u8],
-    ticks: &mut [u64],
-    globals: &mut [u64],
-) -> Answer
-    requires { ⌜ PlanHeld read (now loggers) (now kinds) × Room (now passage) (now ticks) × Room (now passage) (now globals) ⌝ }
-    ensures { λ r. ⌜ Answers
-        (planWorked (length (now (output .entry))) (now (passage .entry))
-        (answerOf read (now (loggers .entry)) (now (kinds .entry)) (now (nodes .entry))))
-        (now (output .entry)) r (now (output .exit)) ⌝ }
-{
-    if read.node_count < 2 {
-        let mut lefts = [[[0u64; 3]; 16]; 1];
-        let mut rights = [[[0u64; 3]; 16]; 1];
-        let mut made = [[[0u64; 3]; 8]; 2];
-        return work_under(
-            read,
-            loggers,
-            kinds,
-            nodes,
-            passage,
-            output,
-            ticks,
-            globals,
-            &mut lefts,
-            &mut rights,
-            &mut made,
-        );
-    }
-    if read.node_count < 5 {
-        let mut lefts = [[[0u64; 3]; 16]; 4];
-        let mut rights = [[[0u64; 3]; 16]; 4];
-        let mut made = [[[0u64; 3]; 8]; 5];
-        return work_under(
-            read,
-            loggers,
-            kinds,
-            nodes,
-            passage,
-            output,
-            ticks,
-            globals,
-            &mut lefts,
-            &mut rights,
-            &mut made,
-        );
-    }
-    let mut lefts = [[[0u64; 3]; 16]; 16];
-    let mut rights = [[[0u64; 3]; 16]; 16];
-    let mut made = [[[0u64; 3]; 8]; 17];
-    work_under(
-        read,
-        loggers,
-        kinds,
-        nodes,
-        passage,
-        output,
-        ticks,
-        globals,
-        &mut lefts,
-        &mut rights,
-        &mut made,
-    )
-}
-
 // The same with tables as long as the passage has use for: of fewer bytes than 194 there are at most 15 events, of fewer than 770 at most 63.
 fn work_in_tables(
     read: plans::PlanRead,
-    loggers: &[u16; 8],
-    kinds: &[u16; 32],
-    nodes: &[[u16; 4]; 16],
+    loggers: &Loggers,
+    kinds: &Kinds,
+    nodes: &Nodes,
     passage: &[u8],
     output: &mut [u8],
 ) -> Answer
@@ -201,7 +313,7 @@ fn work_in_tables(
     if size < 194 {
         let mut ticks = [0u64; 16];
         let mut globals = [0u64; 16];
-        return work_in_rows(
+        return work_under(
             read,
             loggers,
             kinds,
@@ -215,7 +327,7 @@ fn work_in_tables(
     if size < 770 {
         let mut ticks = [0u64; 64];
         let mut globals = [0u64; 64];
-        return work_in_rows(
+        return work_under(
             read,
             loggers,
             kinds,
@@ -228,7 +340,7 @@ fn work_in_tables(
     }
     let mut ticks = [0u64; 129];
     let mut globals = [0u64; 129];
-    work_in_rows(
+    work_under(
         read,
         loggers,
         kinds,

@@ -4,24 +4,14 @@ use mathlib.Core.Path.{_≡_, sym, ap, _∙_}
 use Prim.Native.Nat.{ℕ}
 use native.Mathlib.Omega.{arith}
 use lib.ListN.{drop, length}
-use Rattle.sequences.specs.Members.{_∈_}
 use Rattle.forms.specs.Bytes.{Bytes}
-use Rattle.plans.specs.Layout.{planClocks}
-use Rattle.plans.specs.Reader.{readPlan}
-use Rattle.detections.specs.Findings.{Finding, findingsBytes}
 use Rattle.working.specs.declared.Answer.{Answer}
-use Rattle.working.specs.Latest.{ExactFinding, LatestExact, entriesOf}
+use Rattle.working.specs.Latest.{LatestExact}
 use Rattle.working.specs.Working.{Answers, worked}
 use Rattle.working.proofs.Theorems.{worked-exact}
-use Rattle.listing.specs.Text.{linesText, linesAt}
+use Rattle.listing.specs.Printed.{Printed}
+use Rattle.listing.specs.Text.{linesAt}
 use Rattle.listing.proofs.Theorems.{lines-of-findings}
-
--- the findings fs: their bytes were written, and their lines are those of the output
-pub record Printed (plan passage : List ℕ) (room : ℕ) (out′ : List ℕ) (r : Answer) : Type 0 where
-  pub findings : List Finding
-  pub written : worked plan passage room .bytes ≡ findingsBytes findings
-  pub exact : (f : Finding) → f ∈ findings → ExactFinding (planClocks (readPlan plan .plan)) (entriesOf plan passage) f
-  pub lines : linesAt out′ 0 (r .findings) ≡ linesText findings
 
 pub findings-printed : (plan passage : List ℕ) (room : ℕ) → Bytes plan → Bytes passage → (out out′ : List ℕ) (r : Answer)
     → Answers (worked plan passage room) out r out′ → Printed plan passage room out′ r

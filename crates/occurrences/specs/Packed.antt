@@ -68,14 +68,6 @@ pub record Stand {ticks globals : List ℕ} (t : Notes ticks globals) (ps : List
 abbrev pub Holds : {ticks globals : List ℕ} (t : Notes ticks globals) (row : List (List ℕ)) → ℕ → List Occurrence → Type 0
 Holds t row n l = Stand t (take n row) l
 
--- there are such notes and occurrences
-abbrev pub Known : (ticks globals : List ℕ) (row : List (List ℕ)) (n : ℕ) → Type 0
-Known ticks globals row n = (t : Notes ticks globals) × (l : List Occurrence) × Holds t row n l
-
--- ... and an arrival among them
-abbrev pub Arrives : (ticks globals : List ℕ) (row : List (List ℕ)) (n : ℕ) (p : List ℕ) → Type 0
-Arrives ticks globals row n p = (t : Notes ticks globals) × (l : List Occurrence) × (x : Occurrence) × Holds t row n l × Stands t p x
-
 -- ---- and enough of it to be looked up: what each byte names has a place in both tables
 abbrev pub Within : (ticks globals p : List ℕ) → Type 0
 Within ticks globals p = (k : ℕ) → k < 8 → (byteAt (getD p 2 0) k < length ticks) × (byteAt (getD p 2 0) k < length globals)

@@ -1,3 +1,4 @@
 pub mod Dispatch
+pub mod Growth
+pub mod Spares
 pub mod Turns
-pub mod Views

@@ -58,7 +58,7 @@ fn wide(n: u16) -> u64
 }
 
 // A node from its row.
-pub fn node_of(row: &[u16; 4]) -> Node
+pub fn node_of(row: &NodeRow) -> Node
     ensures { λ r. ⌜ r ≡ nodeOf (now (row .entry)) ⌝ }
 {
     Node {
@@ -91,6 +91,15 @@ pub enum PlanFault {
     Input,
     BytesRemain,
 }
+
+// What a plan is read into: its loggers' and its kinds' numbers, and for each node its operator, its context and its two inputs.
+pub type Loggers = [u16; 8];
+
+pub type Kinds = [u16; 32];
+
+pub type NodeRow = [u16; 4];
+
+pub type Nodes = [NodeRow; 16];
 
 // A plan: its ratio, and how many loggers, kinds and nodes there are in front of the arrays that were lent; or its fault and
 // the place of the count or entry, with nothing counted.
@@ -257,7 +266,7 @@ fn read_numbers(
     }
 }
 
-fn read_loggers(bytes: &[u8], start: usize, into: &mut [u16; 8]) -> CountRead
+fn read_loggers(bytes: &[u8], start: usize, into: &mut Loggers) -> CountRead
     ensures { λ r. ⌜ Filled loggers (now (bytes .entry)) start r (now (into .exit)) ⌝ }
 {
     read_numbers(
@@ -270,7 +279,7 @@ fn read_loggers(bytes: &[u8], start: usize, into: &mut [u16; 8]) -> CountRead
     )
 }
 
-fn read_kinds(bytes: &[u8], start: usize, into: &mut [u16; 32]) -> CountRead
+fn read_kinds(bytes: &[u8], start: usize, into: &mut Kinds) -> CountRead
     ensures { λ r. ⌜ Filled kinds (now (bytes .entry)) start r (now (into .exit)) ⌝ }
 {
     read_numbers(
@@ -364,7 +373,7 @@ fn read_node(bytes: &[u8], at: usize, kinds: usize, place: usize) -> NodeRead
     }
 }
 
-fn read_nodes(bytes: &[u8], start: usize, kinds: usize, into: &mut [[u16; 4]; 16]) -> CountRead
+fn read_nodes(bytes: &[u8], start: usize, kinds: usize, into: &mut Nodes) -> CountRead
     ensures { λ r. ⌜ Filled (nodes kinds) (now (bytes .entry)) start r (map nodeOf (now (into .exit))) ⌝ }
 {
     let places = into[..].len();
@@ -412,9 +421,9 @@ fn turned_back(fault: PlanFault, place: usize) -> PlanRead
 // Reads a plan into the arrays that are lent.
 pub fn read_plan(
     bytes: &[u8],
-    loggers: &mut [u16; 8],
-    kinds: &mut [u16; 32],
-    nodes: &mut [[u16; 4]; 16],
+    loggers: &mut Loggers,
+    kinds: &mut Kinds,
+    nodes: &mut Nodes,
 ) -> PlanRead
     ensures { λ r. ⌜ (answerOf r (now (loggers .exit)) (now (kinds .exit)) (now (nodes .exit)) ≡ readPlan (now (bytes .entry)))
         × (r .«logger_count» ≤ 8) × (r .«kind_count» ≤ 32) × (r .«node_count» ≤ 16) ⌝ }

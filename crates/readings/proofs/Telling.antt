@@ -4,13 +4,13 @@ use mathlib.Core.List.{List, [], _∷_, _++_, append-assoc, List·Memᴰ·head, 
 use Prim.Native.Nat.{ℕ}
 use native.Mathlib.Omega.{arith}
 use lib.ListN.{length, length-append}
-use Rattle.sequences.specs.Members.{_∈_}
 use Rattle.forms.specs.Bytes.{bigEndian}
 use Rattle.forms.specs.Forms.{number, sectionBytes}
 use Rattle.forms.proofs.Forms.{number-laws}
 use Rattle.forms.proofs.Prefixes.{form-tells, section-tells}
 use Rattle.detections.specs.Findings.{Finding, stamp, findingBytes, findingsBytes, FindingFits}
 use Rattle.detections.proofs.Sizes.{stamp-laws, finding-least}
+use Rattle.readings.specs.Reader.{AllFit}
 
 -- ---- one finding
 -- whatever follows
@@ -32,9 +32,6 @@ pub finding-told : (f g : Finding) → FindingFits f → FindingFits g → findi
 finding-told f g h k e = finding-first f g [] [] h k (ap (λ b. b ++ []) e) .0
 
 -- ---- findings one after the other
-abbrev pub AllFit : List Finding → Type 0
-AllFit fs = (f : Finding) → f ∈ fs → FindingFits f
-
 -- as many of them, whatever follows
 pub findings-first : (fs gs : List Finding) (x y : List ℕ) → AllFit fs → AllFit gs → length fs ≡ length gs
     → findingsBytes fs ++ x ≡ findingsBytes gs ++ y → (fs ≡ gs) × (x ≡ y)

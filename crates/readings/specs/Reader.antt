@@ -10,7 +10,7 @@ use Rattle.sequences.specs.Range.{Rising}
 use Rattle.forms.specs.Forms.{number}
 use Rattle.forms.specs.Sections.{unless, Read, got, bad, then, piece, Section, section}
 use Rattle.detections.specs.declared.Stamp.{Stamp}
-use Rattle.detections.specs.Findings.{Finding, StampFits, stamp}
+use Rattle.detections.specs.Findings.{Finding, FindingFits, StampFits, stamp}
 
 -- ---- limits: at most 8 stamps; at most 128 events, their numbers below 128 and rising
 pub record WithinLimits (f : Finding) : Type 0 where
@@ -20,6 +20,10 @@ pub record WithinLimits (f : Finding) : Type 0 where
   pub event-count : length (f .events) ≤ 128
   pub events : (n : ℕ) → n ∈ f .events → n < 128
   pub rising : Rising (f .events)
+
+-- each of a list of findings has numbers that fit into their bytes, so that the bytes tell them apart
+abbrev pub AllFit : List Finding → Type 0
+AllFit fs = (f : Finding) → f ∈ fs → FindingFits f
 
 -- ---- the sections, with one fault, 1, for all that is not in order
 abbrev pub stampSection : Section Stamp

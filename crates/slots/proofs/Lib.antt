@@ -1,3 +1,4 @@
 pub mod Bits
 pub mod Due
+pub mod Filled
 pub mod Slots

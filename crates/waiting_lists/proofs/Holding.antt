@@ -1,19 +1,21 @@
--- What a row holds after an append and a removal.
+-- What a list stands for after an append and a removal.
 use mathlib.Core.Bool.{Bool}
-use mathlib.Core.List.{List, [], _∷_, map, List·Memᴰ·head, List·Memᴰ·tail}
+use mathlib.Core.List.{List, [], _∷_}
 use mathlib.Core.Logic.{_⊎_, inl, inr, ⊎-elim}
 use mathlib.Core.Path.{_≡_, sym, ap, ap₂, subst, _∙_}
-use Prim.Native.Nat.{ℕ}
-use lib.ListN.{take}
-use Rattle.sequences.specs.Loops.{fold}
+use Prim.Native.Nat.{ℕ, _+_, _-_, _<_}
+use native.Mathlib.Omega.{arith}
+use lib.ListN.{length, length-set, set}
 use Rattle.sequences.specs.Marks.{unmarked}
-use Rattle.sequences.specs.Members.{_∈_}
-use Rattle.sequences.proofs.Loops.{fold-next, fold-none}
 use Rattle.sequences.proofs.Marks.{map-unmarked}
 use Rattle.occurrences.specs.declared.Occurrence.{Occurrence}
-use Rattle.occurrences.specs.Packed.{Holds, Notes, Sound, Stand, Stands, occurrenceOf}
+use Rattle.occurrences.specs.Packed.{Notes, Sound, Stand, Stands, occurrenceOf}
+use Rattle.waiting_lists.specs.declared.WaitingList.{WaitingList}
+use Rattle.waiting_lists.specs.Lists.{Appends, Placed, Removes, Roomy, Waits, listOf, waitersOf}
 use Rattle.waiting_lists.specs.Waiting.{appendedTo}
+use Rattle.waiting_lists.proofs.Lists.{waits-kept}
 use Rattle.waiting_lists.proofs.Views.{appended-of, map-appended, unmarked-of}
+use Rattle.waiting_lists.proofs.Waits.{waits-length}
 
 module _ {ticks globals : List ℕ} (t : Notes ticks globals) where
   pub stand-appended : (ps : List (List ℕ)) (l : List Occurrence) (p : List ℕ) (o : Occurrence) → Stand t ps l → Stands t p o → Stand t (appendedTo ps p) (appendedTo l o)
@@ -22,34 +24,27 @@ module _ {ticks globals : List ℕ} (t : Notes ticks globals) where
     sound = λ q m. ⊎-elim (h .sound q) (λ e. subst (Sound t) (sym e) (s .sound)) (appended-of ps p q m);
   }
 
-  pub holds-appended : (row row′ : List (List ℕ)) (n m : ℕ) (l : List Occurrence) (p : List ℕ) (o : Occurrence) → take m row′ ≡ appendedTo (take n row) p → Holds t row n l → Stands t p o → Holds t row′ m (appendedTo l o)
-  holds-appended row row′ n m l p o e h s = subst (λ ps. Stand t ps (appendedTo l o)) (sym e) (stand-appended (take n row) l p o h s)
-
-  pub holds-unmarked : (row row′ : List (List ℕ)) (n m : ℕ) (l : List Occurrence) (gone : List Bool) → take m row′ ≡ unmarked (take n row) gone → Holds t row n l → Holds t row′ m (unmarked l gone)
-  holds-unmarked row row′ n m l gone e h = subst (λ ps. Stand t ps (unmarked l gone)) (sym e) (record {
-    same = map-unmarked (occurrenceOf ticks) (take n row) gone ∙ ap (λ k. unmarked k gone) (h .same);
-    sound = λ q i. h .sound q (unmarked-of (take n row) gone i);
-  })
-
-  -- each of some
-  stand-all : (qs ps : List (List ℕ)) (k l : List Occurrence) → Stand t qs k → Stand t ps l → Stand t (fold appendedTo qs ps) (fold appendedTo k l)
-  stand-all qs ps k l g h = record {
-    same = map-all (occurrenceOf ticks) qs ps ∙ ap₂ (λ m n. fold appendedTo m n) (g .same) (h .same);
-    sound = λ q m. ⊎-elim (h .sound q) (g .sound q) (all-of qs ps q m);
+  pub stand-unmarked : (ps : List (List ℕ)) (l : List Occurrence) (gone : List Bool) → Stand t ps l → Stand t (unmarked ps gone) (unmarked l gone)
+  stand-unmarked ps l gone h = record {
+    same = map-unmarked (occurrenceOf ticks) ps gone ∙ ap (λ k. unmarked k gone) (h .same);
+    sound = λ q i. h .sound q (unmarked-of ps gone i);
   }
-    where
-      map-all : {A B : Type 0} (f : A → B) (qs ps : List A) → map f (fold appendedTo qs ps) ≡ fold appendedTo (map f qs) (map f ps)
-      map-all f [] ps = ap (map f) (fold-none appendedTo ps) ∙ sym (fold-none appendedTo (map f ps))
-      map-all f (q ∷ qs) ps =
-          ap (map f) (fold-next appendedTo q qs ps) ∙ map-all f qs (appendedTo ps q) ∙ ap (fold appendedTo (map f qs)) (map-appended f ps q) ∙ sym (fold-next appendedTo (f q) (map f qs) (map f ps))
 
-      all-of : {A : Type 0} (qs ps : List A) (b : A) → b ∈ fold appendedTo qs ps → (b ∈ ps) ⊎ (b ∈ qs)
-      all-of [] ps b m = inl (rw (fold-none appendedTo ps) at m)
-      all-of (q ∷ qs) ps b m = ⊎-elim
-          (λ i. ⊎-elim (λ j. inl j) (λ e. inr (List·Memᴰ·head e)) (appended-of ps q b i))
-          (λ i. inr (List·Memᴰ·tail i))
-          (all-of qs (appendedTo ps q) b (rw (fold-next appendedTo q qs ps) at m))
+  -- ---- what the code leaves
+  module _ (w : List (List ℕ)) (l : List Occurrence) (h : Waits t w l) where
+    pub waits-appended : (place : ℕ) (more : WaitingList) (p : List ℕ) (o : Occurrence) → Appends (listOf w) place more → Roomy w l 1 → Stands t p o
+        → Waits t (set (set w place p) 0 (more .order ∷ more .len ∷ 0 ∷ [])) (appendedTo l o)
+    waits-appended place more p o a room s =
+        let many : length (set w place p) ≡ length w = length-set w place p in
+        let some = h .some in
+        let places : length (set w place p) - 1 ≡ length w - 1 = ap (λ n. n - 1) many in
+        let n = waits-length t w l h in
+        let one : (listOf w .len + 1 < length w) ⊎ (length w ≡ 17) = rw n room in
+        let two : (listOf w .len < length w - 1) ⊎ (length w - 1 ≡ 16) = ⊎-elim (λ r. inl (omega arith)) (λ r. inr (omega arith)) one in
+        waits-kept (set w place p) more (omega arith) (subst (Placed more) (sym places) (a .placed (length w - 1) (h .placed) two)) t (appendedTo l o)
+        (subst (λ ps. Stand t ps (appendedTo l o)) (sym (a .waits w p (h .placed) one)) (stand-appended (waitersOf (listOf w) w) l p o (h .stand) s))
 
-  pub holds-all : (row row′ arrivals : List (List ℕ)) (n m count : ℕ) (l k : List Occurrence) → take m row′ ≡ fold appendedTo (take count arrivals) (take n row)
-      → Holds t row n l → Holds t arrivals count k → Holds t row′ m (fold appendedTo k l)
-  holds-all row row′ arrivals n m count l k e h g = subst (λ ps. Stand t ps (fold appendedTo k l)) (sym e) (stand-all (take count arrivals) (take n row) k l g h)
+    pub waits-unmarked : (rest : WaitingList) (gone : List Bool) → Removes (listOf w) gone rest → Waits t (set w 0 (rest .order ∷ rest .len ∷ 0 ∷ [])) (unmarked l gone)
+    waits-unmarked rest gone r =
+        waits-kept w rest (h .some) (r .placed (length w - 1) (h .placed)) t (unmarked l gone)
+        (subst (λ ps. Stand t ps (unmarked l gone)) (sym (r .waits w (length w - 1) (h .placed))) (stand-unmarked (waitersOf (listOf w) w) l gone (h .stand)))

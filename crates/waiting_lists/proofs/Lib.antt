@@ -1,7 +1,8 @@
 pub mod Appends
-pub mod Counts
 pub mod Holding
+pub mod Lists
 pub mod Marks
-pub mod Places
+pub mod Orders
 pub mod Removals
 pub mod Views
+pub mod Waits

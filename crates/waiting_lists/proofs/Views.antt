@@ -6,10 +6,10 @@ use mathlib.Core.Logic.{_⊎_, inl, inr, ⊎-elim}
 use lib.Dec.{leb}
 use lib.ListN.{length-map}
 use Rattle.sequences.specs.Choice.{pick}
-use Rattle.sequences.specs.Marks.{marked, unmarked}
+use Rattle.sequences.specs.Marks.{unmarked}
 use Rattle.sequences.specs.Members.{_∈_}
 use Rattle.sequences.proofs.Booleans.{either-way}
-use Rattle.sequences.proofs.Marks.{marked-order, order-in, unmarked-order}
+use Rattle.sequences.proofs.Marks.{order-in, unmarked-order}
 use Rattle.waiting_lists.specs.Waiting.{appendedTo, isFull}
 
 module _ {A B : Type 0} (f : A → B) where
@@ -34,10 +34,6 @@ appended-of l a b m =
     (λ n. ⊎-elim inl (λ i. inr (List·Memᴰ·eq-of-singleton i)) (List·Memᴰ·append-cases l (rw n at m)))
     (either-way (isFull l))
 
--- what is marked was in the list, and so was what is not
-module _ {A : Type 0} {b : A} (l : List A) (m : List Bool) where
-  pub marked-of : b ∈ marked l m → b ∈ l
-  marked-of = order-in (marked-order l m)
-
-  pub unmarked-of : b ∈ unmarked l m → b ∈ l
-  unmarked-of = order-in (unmarked-order l m)
+-- what is not marked was in the list
+pub unmarked-of : {A : Type 0} {b : A} (l : List A) (m : List Bool) → b ∈ unmarked l m → b ∈ l
+unmarked-of l m = order-in (unmarked-order l m)

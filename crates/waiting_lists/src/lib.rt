@@ -1,59 +1,58 @@
-// Waiting lists: at most 16 occurrences, in waiting order. They stand in a row of 16 packed occurrences, which is lent beside the list.
+// Waiting lists: at most 16 occurrences, in waiting order. A list says which of its places wait, and in which order; it is kept in front of its places, in a
+// slice that is lent (specs/Lists.antt).
+use occurrences::Packed;
 ghost use mathlib.Core.Bool.{false, true};
+ghost use mathlib.Core.List.{List, [], _∷_};
 ghost use mathlib.Core.Path.{_≡_};
-ghost use Prim.Native.Nat.{min, _≤_, _<_};
-ghost use lib.ListN.{getD, length, set, take};
+ghost use Prim.Native.Nat.{ℕ, min, _+_, _≤_, _<_};
+ghost use lib.ListN.{getD, length, set};
 ghost use Rattle.sequences.specs.Choice.{pick};
 ghost use Rattle.sequences.specs.Marks.{firstMark, unmarked};
+ghost use Rattle.occurrences.specs.declared.Occurrence.{Occurrence};
+ghost use Rattle.occurrences.specs.Packed.{Notes, Stands};
 ghost use Rattle.waiting_lists.specs.Marks.{marksOf};
-ghost use Rattle.waiting_lists.specs.Steps.{fewer, oneMore};
+ghost use Rattle.waiting_lists.specs.Lists.{Appends, Removes, Roomy, Waits, listOf, orderOf, placeIn};
 ghost use Rattle.waiting_lists.specs.Waiting.{appendedTo};
 
-// Document 01's waiting list: how many of its row wait, from the front.
+// Document 01's waiting list. Four bits of `order` name a place: the lowest four that of the first that waits, and so on for `len` of them. After them come
+// the places that are free: an append takes the first of these, and a removal puts there what it frees.
 pub struct WaitingList {
+    pub order: u64,
     pub len: usize,
 }
 
-// What an append leaves, and the place in the row that it takes; 16 where the list is full.
+// What an append leaves, and where in the lent slice the new one goes; past every place where the list is full.
 pub struct AfterAppend {
     pub place: usize,
     pub list: WaitingList,
 }
 
-// How many of a row of 16 wait, where n are said to.
+// How many of 16 wait, where n are said to.
 pub fn count(n: usize) -> usize
     ensures { λ r. ⌜ (r ≡ min n 16) × (r ≤ 16) ⌝ }
 {
     if 16 < n { 16 } else { n }
 }
 
-// How many of a row wait.
-pub fn count_in(list: &[[u64; 3]; 16], n: usize) -> usize
-    ensures { λ r. ⌜ (r ≡ length (take n (now (list .entry)))) × (r ≤ 16) × (length (now (list .entry)) ≡ 16) × (r ≡ min n 16) ⌝ }
-{
-    let places = list[..].len();
-    if n < places { n } else { places }
-}
-
 // ---- marks
 
-// Whether a place is marked.
-pub fn is_marked(marks: u64, place: usize) -> bool
-    requires { ⌜ place < 16 ⌝ }
-    ensures { λ r. ⌜ r ≡ getD (marksOf marks) place false ⌝ }
+// Whether the one at place i of the waiting order is marked.
+pub fn is_marked(marks: u64, i: usize) -> bool
+    requires { ⌜ i < 16 ⌝ }
+    ensures { λ r. ⌜ r ≡ getD (marksOf marks) i false ⌝ }
 {
-    (marks >> place) % 2 == 1
+    (marks >> i) % 2 == 1
 }
 
-// With this place too, where that is to be marked.
-pub fn with_mark(marks: u64, place: usize, mark: bool) -> u64
-    requires { ⌜ place < 16 ⌝ }
-    ensures { λ r. ⌜ marksOf r ≡ pick mark (set (marksOf marks) place true) (marksOf marks) ⌝ }
+// With this one too, where it is to be marked.
+pub fn with_mark(marks: u64, i: usize, mark: bool) -> u64
+    requires { ⌜ i < 16 ⌝ }
+    ensures { λ r. ⌜ marksOf r ≡ pick mark (set (marksOf marks) i true) (marksOf marks) ⌝ }
 {
-    if mark { marks | 1 << place } else { marks }
+    if mark { marks | 1 << i } else { marks }
 }
 
-// The first place that is marked; 16 where none is.
+// The first that is marked; 16 where none is.
 pub fn first_marked(marks: u64) -> usize
     ensures { λ r. ⌜ r ≡ firstMark (marksOf marks) ⌝ }
 {
@@ -61,50 +60,94 @@ pub fn first_marked(marks: u64) -> usize
     if first < 16 { first } else { 16 }
 }
 
+// ---- the order
+
+// The place that the i-th of an order has.
+fn place_in(order: u64, i: usize) -> u64
+    requires { ⌜ i < 16 ⌝ }
+    ensures { λ r. ⌜ (r ≡ placeIn order i) × (r < 16) ⌝ }
+{
+    (order >> (4 * i)) % 16
+}
+
+// Without the i-th: those after it close up.
+fn without_place(order: u64, i: usize) -> u64
+    requires { ⌜ i < 16 ⌝ }
+    ensures { λ r. ⌜ ((j : ℕ) → j < i → placeIn r j ≡ placeIn order j) × ((j : ℕ) → i ≤ j → j < 15 → placeIn r j ≡ placeIn order (j + 1))
+        × (r < 1152921504606846976) ⌝ }
+{
+    order % (1 << (4 * i)) + (order >> (4 * i) >> 4 << (4 * i))
+}
+
+// With a place as the i-th: those from there on move up.
+fn with_place(order: u64, i: usize, place: u64) -> u64
+    requires { ⌜ (i < 16) × (place < 16) × (order < 1152921504606846976) ⌝ }
+    ensures { λ r. ⌜ ((j : ℕ) → j < i → placeIn r j ≡ placeIn order j) × (placeIn r i ≡ place)
+        × ((j : ℕ) → i ≤ j → j < 15 → placeIn r (j + 1) ≡ placeIn order j) ⌝ }
+{
+    order % (1 << (4 * i)) + (place << (4 * i)) + (order >> (4 * i) << (4 * i) << 4)
+}
+
+// The place of the i-th comes to stand at last, and those between close up.
+fn moved(order: u64, i: usize, last: usize) -> u64
+    requires { ⌜ (i ≤ last) × (last < 16) ⌝ }
+    ensures { λ r. ⌜ ((j : ℕ) → j < i → placeIn r j ≡ placeIn order j) × ((j : ℕ) → i ≤ j → j < last → placeIn r j ≡ placeIn order (j + 1))
+        × (placeIn r last ≡ placeIn order i) × ((j : ℕ) → last < j → j < 16 → placeIn r j ≡ placeIn order j) ⌝ }
+{
+    if i == last {
+        return order;
+    }
+    with_place(without_place(order, i), last, place_in(order, i))
+}
+
 // ---- the list
 
-// One more, unless 16 wait already.
+// One more takes the first free place, unless 16 wait already.
 fn appended(list: WaitingList) -> AfterAppend
-    ensures { λ r. ⌜ r ≡ oneMore list ⌝ }
+    ensures { λ r. ⌜ Appends list (r .place) (r .list) ⌝ }
 {
     let n = list.len;
+    let order = list.order;
     if n < 16 {
-        let more = WaitingList { len: n + 1 };
+        let more = WaitingList {
+            order: order,
+            len: n + 1,
+        };
         AfterAppend {
-            place: n,
+            place: place_in(order, n) as usize + 1,
             list: more,
         }
     } else {
         AfterAppend {
-            place: 16,
+            place: 17,
             list: list,
         }
     }
 }
 
-fn one_unless(gone: bool) -> usize
-    ensures { λ r. ⌜ (r ≡ pick gone 0 1) × (r ≤ 1) ⌝ }
-{
-    if gone { 0 } else { 1 }
-}
-
-// Those that are marked leave.
+// Those that are marked leave, and their places are free.
 fn kept(list: WaitingList, gone: u64) -> WaitingList
-    ensures { λ r. ⌜ r ≡ fewer list (marksOf gone) ⌝ }
+    ensures { λ r. ⌜ Removes list (marksOf gone) r ⌝ }
 {
-    let n = count(list.len);
-    let mut k: usize = 0;
-    let mut i: usize = 0;
-    while i < n {
-        k = k + one_unless(is_marked(gone, i));
-        i = i + 1;
+    let mut order = list.order;
+    let mut n = count(list.len);
+    let mut i = n;
+    while 0 < i {
+        i = i - 1;
+        if is_marked(gone, i) {
+            n = n - 1;
+            order = moved(order, i, n);
+        }
     }
-    WaitingList { len: k }
+    WaitingList {
+        order: order,
+        len: n,
+    }
 }
 
-// An append to a list that is lent: the place it takes.
+// An append to a list that is lent: where the new one goes.
 pub fn append(list: &mut WaitingList) -> usize
-    ensures { λ r. ⌜ (r ≡ oneMore (now (list .entry)) .place) × (now (list .exit) ≡ oneMore (now (list .entry)) .list) ⌝ }
+    ensures { λ r. ⌜ Appends (now (list .entry)) r (now (list .exit)) ⌝ }
 {
     let a = appended(*list);
     *list = a.list;
@@ -113,14 +156,14 @@ pub fn append(list: &mut WaitingList) -> usize
 
 // A removal of those marked from a list that is lent.
 pub fn remove(list: &mut WaitingList, gone: u64)
-    ensures { λ _. ⌜ now (list .exit) ≡ fewer (now (list .entry)) (marksOf gone) ⌝ }
+    ensures { λ _. ⌜ Removes (now (list .entry)) (marksOf gone) (now (list .exit)) ⌝ }
 {
     *list = kept(*list, gone);
 }
 
 // An append to a list by value, which is lent.
 fn with_one_more(list: WaitingList) -> AfterAppend
-    ensures { λ r. ⌜ r ≡ oneMore list ⌝ }
+    ensures { λ r. ⌜ Appends list (r .place) (r .list) ⌝ }
 {
     let mut m = list;
     let place = append(&mut m);
@@ -132,69 +175,91 @@ fn with_one_more(list: WaitingList) -> AfterAppend
 
 // A removal from a list by value, which is lent.
 fn without(list: WaitingList, gone: u64) -> WaitingList
-    ensures { λ r. ⌜ r ≡ fewer list (marksOf gone) ⌝ }
+    ensures { λ r. ⌜ Removes list (marksOf gone) r ⌝ }
 {
     let mut m = list;
     remove(&mut m, gone);
     m
 }
 
-// ---- the list and its row
+// ---- the list in front of its places
 
-// One more at the end, unless the list is full: how many wait then.
-pub fn append_to(row: &mut [[u64; 3]; 16], waiting: usize, o: &[u64; 3]) -> usize
-    ensures { λ r. ⌜ take r (now (row .exit)) ≡ appendedTo (take waiting (now (row .entry))) (now (o .entry)) ⌝ }
+// The order that is kept: 0, as at first, for each place at its own number.
+fn order_of(kept: u64) -> u64
+    ensures { λ r. ⌜ r ≡ orderOf kept ⌝ }
 {
-    let list = WaitingList { len: waiting };
+    if kept == 0 {
+        18364758544493064720
+    } else {
+        kept
+    }
+}
+
+// The list that is kept in front of its places.
+pub fn list_of(w: &[Packed]) -> WaitingList
+    requires { ⌜ 0 < length (now w) ⌝ }
+    ensures { λ r. ⌜ r ≡ listOf (now (w .entry)) ⌝ }
+{
+    let head = w[0];
+    WaitingList {
+        order: order_of(head[0]),
+        len: head[1] as usize,
+    }
+}
+
+// Where in the lent slice the i-th that waits stands.
+pub fn place_at(list: WaitingList, i: usize) -> usize
+    requires { ⌜ i < 16 ⌝ }
+    ensures { λ r. ⌜ r ≡ placeIn (list .order) i + 1 ⌝ }
+{
+    let order = list.order;
+    place_in(order, i) as usize + 1
+}
+
+// The list is kept.
+fn keep(w: &mut [Packed], list: WaitingList)
+    requires { ⌜ 0 < length (now w) ⌝ }
+    ensures { λ _. ⌜ now (w .exit) ≡ set (now (w .entry)) 0 (list .order ∷ list .len ∷ 0 ∷ []) ⌝ }
+{
+    let mut head = [0u64; 3];
+    head[0] = list.order;
+    head[1] = list.len as u64;
+    w[0] = head;
+}
+
+// An occurrence goes to a place, if there is such a one.
+fn put(w: &mut [Packed], place: usize, o: &Packed)
+    ensures { λ _. ⌜ now (w .exit) ≡ set (now (w .entry)) place (now (o .entry)) ⌝ }
+{
+    if place < w.len() {
+        w[place] = *o;
+    }
+}
+
+// One more waits, at the end; a list of 16 stays as it is.
+pub fn append_to(w: &mut [Packed], o: &Packed)
+    requires { ⌜ 0 < length (now w) ⌝ }
+    ensures { λ _. ⌜ ((ticks globals : List ℕ) (t : Notes ticks globals) (l : List Occurrence) (x : Occurrence)
+        → Waits t (now (w .entry)) l → Roomy (now (w .entry)) l 1 → Stands t (now (o .entry)) x
+        → Waits t (now (w .exit)) (appendedTo l x)) ⌝ }
+{
+    let list = list_of(w);
     let a = with_one_more(list);
-    let after = a.list;
-    let place = a.place;
-    if place < row[..].len() {
-        row[place] = *o;
-        return after.len;
-    }
-    after.len
+    let more = a.list;
+    put(w, a.place, o);
+    keep(w, more);
 }
 
-// The earlier of two places.
-fn earlier(a: usize, b: usize) -> usize
-    ensures { λ r. ⌜ r ≡ min a b ⌝ }
-{
-    if a < b { a } else { b }
-}
-
-// Those of a row that are not marked close up in order.
-fn close_up(row: &mut [[u64; 3]; 16], waiting: usize, gone: u64) -> usize
-    ensures { λ r. ⌜ take r (now (row .exit)) ≡ unmarked (take waiting (now (row .entry))) (marksOf gone) ⌝ }
-{
-    let first = first_marked(gone);
-    let n = count_in(row, waiting);
-    let start = earlier(first, n);
-    let mut k = start;
-    let mut i = start;
-    while i < n {
-        let next = i + 1;
-        if !is_marked(gone, i) {
-            let o = row[i];
-            row[k] = o;
-            k = k + 1;
-        }
-        i = next;
-    }
-    k
-}
-
-// Those that are not marked close up in order: how many wait then.
-pub fn remove_from(row: &mut [[u64; 3]; 16], waiting: usize, gone: u64) -> usize
-    ensures { λ r. ⌜ take r (now (row .exit)) ≡ unmarked (take waiting (now (row .entry))) (marksOf gone) ⌝ }
+// Those that are not marked wait on, in order.
+pub fn remove_from(w: &mut [Packed], gone: u64)
+    requires { ⌜ 0 < length (now w) ⌝ }
+    ensures { λ _. ⌜ ((ticks globals : List ℕ) (t : Notes ticks globals) (l : List Occurrence) → Waits t (now (w .entry)) l
+        → Waits t (now (w .exit)) (unmarked l (marksOf gone))) ⌝ }
 {
     if first_marked(gone) == 16 {
-        return waiting;
+        return;
     }
-    // The row as a slice is what tells the proof its length.
-    let places = row[..].len();
-    let list = WaitingList { len: waiting };
+    let list = list_of(w);
     let rest = without(list, gone);
-    close_up(row, waiting, gone);
-    rest.len
+    keep(w, rest);
 }

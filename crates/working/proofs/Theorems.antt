@@ -31,7 +31,8 @@ use Rattle.forms.specs.Bytes.{Bytes}
 use Rattle.forms.proofs.Layouts.{length-section}
 use Rattle.occurrences.specs.Latest.{Exact}
 use Rattle.detections.specs.Findings.{Finding, findingsBytes}
-use Rattle.readings.proofs.Telling.{AllFit, findings-told}
+use Rattle.readings.specs.Reader.{AllFit}
+use Rattle.readings.proofs.Telling.{findings-told}
 use Rattle.readings.proofs.Theorems.{within-fits}
 use Rattle.emissions.specs.declared.Limit.{Limit}
 use Rattle.emissions.specs.declared.Limit.the-variants.{None, ListFull, NodeFull, OutputFull}
@@ -40,16 +41,10 @@ use Rattle.progress.specs.Progress.{numbersByPlace, runOf, stampOf}
 use Rattle.latest_stamps.specs.Written.{Kept}
 use Rattle.latest_stamps.proofs.Theorems.{accepted-exact}
 use Rattle.working.specs.declared.Answer.{Answer}
+use Rattle.working.specs.Ends.{Ends, LaidOut, passage-fault, plan-fault, works}
 use Rattle.working.specs.Latest.{ExactFinding, LatestExact, WrittenExact, entriesOf, stampsFrom}
 use Rattle.working.specs.Working.{Answers, Work, answerNumbers, endOf, turnedBack, worked}
 use Rattle.working.proofs.Latest.{shown-exact, stamps-same}
-
--- the plan is turned back under 1 to 12, or the passage under 21 to 26, or both are accepted and the passage is worked
-pub data Ends (plan passage : List ℕ) (room : ℕ) : Type 0 where
-  plan-fault : (number place : ℕ) → 1 ≤ number → number ≤ 12 → worked plan passage room ≡ turnedBack number place → Ends plan passage room
-  passage-fault : (p : Plan) → readPlan plan ≡ acceptedPlan p → (number place : ℕ) → 21 ≤ number → number ≤ 26 → worked plan passage room ≡ turnedBack number place → Ends plan passage room
-  works : (p : Plan) → readPlan plan ≡ acceptedPlan p → (es : List EventEntry) → readPassage p passage ≡ accepted es
-      → worked plan passage room ≡ endOf (runOf room p (passageEvents p passage)) → Ends plan passage room
 
 module _ (plan passage : List ℕ) (room : ℕ) where
   plan-stops : (number place : ℕ) → 1 ≤ number → readPlan plan ≡ refusedPlan number place → worked plan passage room ≡ turnedBack number place
@@ -84,15 +79,6 @@ laid-out-is-worked p es room ok fine =
     let f = passage-accepted p es ok fine in
     both-pass (planBytes p) (passageBytes es) room p es (plan-accepted p ok) f
     ∙ ap (λ l. endOf (runOf room p l)) (accepted-events p (passageBytes es) es (laid-out-is-bytes p es ok fine) f)
-
--- a plan and a passage within the limits, laid out as bytes
-pub record LaidOut (plan passage : List ℕ) : Type 0 where
-  pub read : Plan
-  pub entries : List EventEntry
-  pub plan-ok : PlanOk read
-  pub passage-ok : PassageOk read entries
-  pub plan-bytes : plan ≡ planBytes read
-  pub passage-bytes : passage ≡ passageBytes entries
 
 -- and no other two are worked: with 0, or with a limit's number, both are such bytes
 pub worked-is-laid-out : (plan passage : List ℕ) (room : ℕ) → Bytes plan → Bytes passage

@@ -4,11 +4,11 @@ use Rattle.contexts.proofs.Findings.{together-none, together-some}
 use Rattle.detections.proofs.Writing.{beyond-none}
 use Rattle.emissions.specs.Emissions.{Emits}
 use Rattle.occurrences.proofs.Packed.{stands-within}
-use Rattle.occurrences.proofs.Rows.{holds-length}
 use Rattle.occurrences.specs.Combination.{combinedOf}
 use Rattle.sequences.specs.Loops.{fold}
 use Rattle.sequences.specs.Marks.{marked}
 use Rattle.waiting_lists.proofs.Marks.{length-marks}
+use Rattle.waiting_lists.proofs.Waits.{read-few, read-length}
 use Rattle.waiting_lists.specs.Marks.{marksOf}
 use denote.Ref.{now}
 use mathlib.Core.Path.{_∙_, refl, subst}
@@ -19,14 +19,17 @@ use Rattle.arrivals.proofs.emit_together.Reads as reads
 use Rattle.arrivals.proofs.emit_together.Lts as lts
 use Rattle.contexts.proofs.all_combined.Reads as all-combined-reads
 use Rattle.emissions.proofs.emit_one.Reads as emit-one-reads
-use Rattle.waiting_lists.proofs.count_in.Reads as count-in-reads
+use Rattle.waiting_lists.proofs.list_of.Reads as list-of-reads
 use Rattle.waiting_lists.proofs.first_marked.Reads as first-marked-reads
 
 first-marked-requires : tie.Need-first-marked-requires
 first-marked-requires c κs = search needs
 
-count-in-requires : tie.Need-count-in-requires
-count-in-requires c κs = search needs
+list-of-requires : tie.Need-list-of-requires
+list-of-requires c κs =
+    let (one, fits) = c .before .before .before .before .pre in
+    let (t, l, s, x, h, m, p) = one in
+    h .some
 
 returns : tie.Need-returns
 returns c =
@@ -36,7 +39,7 @@ returns c =
     let list = now (start .args .list) in
     let (one, fits) = start .pre in (
       (λ t l s x h m p.
-          let none = together-none (t .clocks) x l (marksOf (start .args .taken)) _ _ (first .first-marked .ensures) (count .count-in .ensures .0 ∙ holds-length t list (start .args .waiting) l h) (c .if1 .taken) in
+          let none = together-none (t .clocks) x l (marksOf (start .args .taken)) _ _ (first .first-marked .ensures) (read-length t list l h (count .list-of .result) (count .list-of .ensures)) (c .if1 .taken) in
           subst (Emits t _ _ _) (emits-none _ _ _ s _ none) m),
       beyond-none (fits .0) (fits .1),
     )
@@ -64,8 +67,8 @@ returns-2 c =
     let start = first .before .before .before .before in
     let list = now (start .args .list) in (
       (λ t l s x h m p.
-          let one = together-some (t .clocks) x l (marksOf (start .args .taken)) _ _ (first .first-marked .ensures) (count .count-in .ensures .0 ∙ holds-length t list (start .args .waiting) l h)
-          (count .count-in .ensures .1) (length-marks (start .args .taken)) (some .if1 .left) in
+          let one = together-some (t .clocks) x l (marksOf (start .args .taken)) _ _ (first .first-marked .ensures) (read-length t list l h (count .list-of .result) (count .list-of .ensures))
+          (read-few t list l h (count .list-of .result) (count .list-of .ensures)) (length-marks (start .args .taken)) (some .if1 .left) in
           subst (Emits t _ _ _) (emits-one _ _ _ s _ _ _ refl one)
           (call .emit-one .ensures .0 (now (start .args .globals)) t s (fold (combinedOf (t .clocks)) (marked l (marksOf (start .args .taken))) x) m (all .all-combined .ensures t l x h p))),
       call .emit-one .ensures .1,
@@ -76,7 +79,7 @@ emit-together-spec =
     tie.close
     (tie.spec
     first-marked-requires
-    count-in-requires
+    list-of-requires
     returns
     all-combined-requires
     emit-one-requires

@@ -5,13 +5,12 @@ use Rattle.arrivals.specs.Views.{HoldsMet}
 use Rattle.detections.proofs.Examples.{bytes}
 use Rattle.detections.proofs.Writing.{beyond-none}
 use Rattle.emissions.specs.Emissions.{reached}
-use Rattle.occurrences.proofs.Rows.{holds-length}
 use Rattle.sequences.proofs.Marks.{marked-none}
 use Rattle.sequences.specs.Marks.{firstMark}
-use Rattle.waiting_lists.proofs.Holding.{holds-unmarked}
+use Rattle.waiting_lists.proofs.Waits.{waits-few}
 use Rattle.waiting_lists.specs.Marks.{marksOf}
 use denote.Ref.{now}
-use lib.ListN.{length, length-take}
+use lib.ListN.{length}
 use mathlib.Core.Path.{_∙_, ap, refl, subst, sym}
 use native.Mathlib.Omega.{arith}
 use borrow.Author.Needs.{needs}
@@ -30,13 +29,12 @@ first-marked-requires c κs = search needs
 
 returns : tie.Need-returns
 returns c =
-    let first = c .before .before .before in
+    let first = c .before in
     let start = first .before .before .before .before in
     let list = now (start .args .list) in
     let (one, fits) = start .pre in (
       (λ t l s x h m p.
-          let few : length l ≤ firstMark (marksOf (start .args .candidates)) =
-          omega (arith, holds-length t list (start .args .waiting) l h, length-take (start .args .waiting) list, first .first-marked .ensures, c .if1 .taken) in
+          let few : length l ≤ firstMark (marksOf (start .args .candidates)) = omega (arith, waits-few t list l h, first .first-marked .ensures, c .if1 .taken) in
           subst (HoldsMet t _ _ _ _) (met-none _ _ _ l _ s x (marked-none l _ few)) (record { list = h; emit = record { made = m .made; findings = m .findings; bytes = m .bytes; limit = m .limit } })),
       beyond-none (fits .0) (fits .1),
     )
@@ -53,6 +51,9 @@ is-reached-requires c κs = search needs
 same-length : tie.Need-same-length
 same-length c = search needs
 
+same-length-2 : tie.Need-same-length-2
+same-length-2 c = search needs
+
 returns-2 : tie.Need-returns-2
 returns-2 c =
     let told = c .before in
@@ -66,23 +67,30 @@ returns-2 c =
     )
 
 remove-from-requires : tie.Need-remove-from-requires
-remove-from-requires c κs = search needs
+remove-from-requires c κs =
+    let choice = c .before .before .before .before .before .before .before .before .before in
+    let (one, fits) = choice .before .before .before .before .before .before .before .pre in
+    let (t, l, s, x, h, m, p) = one in
+    h .some
 
-same-length-2 : tie.Need-same-length-2
-same-length-2 c = search needs
+same-length-3 : tie.Need-same-length-3
+same-length-3 c = search needs
+
+same-length-4 : tie.Need-same-length-4
+same-length-4 c = search needs
 
 returns-3 : tie.Need-returns-3
 returns-3 c =
-    let go = c .before .before in
+    let gone = c .before in
+    let go = gone .before .before in
     let told = go .before in
     let call = told .before .before .before in
-    let choice = call .before .before .before .before in
-    let start = choice .before .before .before .before .before .before .before .before .before in (
+    let choice = call .before .before .before .before in (
       (λ t l s x h m p.
           let f = call .emit-made .ensures .0 t l s x h m p in
           let ch = choice .choose .ensures t l h in
           subst (HoldsMet t _ _ _ _) (met-goes _ _ _ l _ _ s _ x (ch .0) refl _ _ (ap (λ n. reached n) (f .limit) ∙ sym (told .is-reached .ensures) ∙ go .if2 .left) (ch .1) refl)
-          (record { list = holds-unmarked t (now (start .args .list)) (c .remove-from .last .0) (start .args .waiting) (c .remove-from .result) l _ (c .remove-from .ensures) h; emit = f })),
+          (record { list = gone .remove-from .ensures _ _ t l h; emit = f })),
       call .emit-made .ensures .1,
     )
 
@@ -96,7 +104,9 @@ meet-spec =
     emit-made-requires
     is-reached-requires
     same-length
+    same-length-2
     returns-2
     remove-from-requires
-    same-length-2
+    same-length-3
+    same-length-4
     returns-3)

@@ -1,6 +1,5 @@
 -- As many marks as wait: all bits below a power of two.
 use mathlib.Core.Path.{_≡_, sym, _∙_}
-use Prim.Native.Nat.{min}
 use borrow.Author.Needs.{needs}
 use lib.Pow.{pow-pos}
 use Rattle.event_sets.proofs.Words.{one-shl}
@@ -9,20 +8,14 @@ use Rattle.contexts.proofs.Steps.{all-marks}
 use Rattle.contexts.proofs.all_waiting.Statement.{statement}
 use Rattle.contexts.proofs.all_waiting.Tie as tie
 
-count-requires : tie.Need-count-requires
-count-requires c κs = search needs
-
 shl-result : tie.Need-shl-result
 shl-result c = search needs
 
 sub-result : tie.Need-sub-result
-sub-result c = let n = c .count .result in rw (one-shl n (search needs)) (pow-pos n)
+sub-result c = let n = c .args .n in rw (one-shl n (search needs)) (pow-pos n)
 
 returns : tie.Need-returns
-returns c =
-    let n = c .count .result in
-    let many : n ≡ min (c .before .args .waiting) 16 = c .count .ensures .0 in
-    (λ l long. rw (one-shl n (search needs)) (marks-below n (c .count .ensures .1) ∙ all-marks n l (many ∙ sym long)))
+returns c = let n = c .args .n in (λ l long. rw (one-shl n (search needs)) (marks-below n (c .pre) ∙ all-marks n l (sym long)))
 
 pub all-waiting-spec : {M : Type 1} → statement M
-all-waiting-spec = tie.close (tie.spec count-requires shl-result sub-result returns)
+all-waiting-spec = tie.close (tie.spec shl-result sub-result returns)

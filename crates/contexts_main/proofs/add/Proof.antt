@@ -1,6 +1,7 @@
--- One more is held.
-use Rattle.waiting_lists.proofs.Holding.{holds-appended}
-use denote.Ref.{now}
+-- One more waits: there is room for 16.
+use mathlib.Core.Logic.{inr}
+use mathlib.Core.Path.{_≡_}
+use lib.ListN.{length}
 use borrow.Author.Needs.{needs}
 use Rattle.contexts_main.proofs.add.Statement.{statement}
 use Rattle.contexts_main.proofs.add.Tie as tie
@@ -18,9 +19,9 @@ append-to-requires c κs = search needs
 returns : tie.Need-returns
 returns c =
     let one = c .before .before .before in
-    let start = one .before in
+    let long : length (one .before .args .list .now) ≡ 17 = search needs in
     λ ticks globals t l h within own.
-    holds-appended t (now (start .args .list)) (c .append-to .last .0) (start .args .n) (c .append-to .result) l _ _ (c .append-to .ensures) h (one .of-event .ensures ticks globals t within own)
+    c .append-to .ensures ticks globals t l _ h (inr long) (one .of-event .ensures ticks globals t within own)
 
 pub add-spec : {M : Type 1} → statement M
 add-spec = tie.close (tie.spec of-event-requires append-to-requires returns)

@@ -1,14 +1,17 @@
 -- The five events are noted, four wait and one arrives.
 use mathlib.Core.Path.{refl}
 use native.Mathlib.Omega.{arith}
-use Rattle.contexts_main.proofs.Tables.{globals, noted, ticks}
+use Rattle.contexts_main.proofs.Tables.{globals, none-wait, noted, ticks}
 use borrow.Author.Needs.{needs}
 use Rattle.contexts_main.proofs.and.Statement.{statement}
 use Rattle.contexts_main.proofs.and.Tie as tie
 use Rattle.contexts_main.proofs.and.Reads as reads
 use Rattle.contexts_main.proofs.and.Lts as lts
+use Rattle.contexts.proofs.all_waiting.Reads as all-waiting-reads
 use Rattle.contexts_main.proofs.wait_four.Reads as wait-four-reads
+use Rattle.contexts_main.proofs.waiting_in.Reads as waiting-in-reads
 use Rattle.contexts_main.proofs.work.Reads as work-reads
+use Rattle.contexts_main.proofs.write.Reads as write-reads
 use Rattle.occurrences.proofs.of_event.Reads as of-event-reads
 
 wait-four-requires : tie.Need-wait-four-requires
@@ -16,6 +19,9 @@ wait-four-requires c κs = search needs
 
 of-event-requires : tie.Need-of-event-requires
 of-event-requires c κs = search needs
+
+waiting-in-requires : tie.Need-waiting-in-requires
+waiting-in-requires c κs = search needs
 
 all-waiting-requires : tie.Need-all-waiting-requires
 all-waiting-requires c κs = search needs
@@ -37,8 +43,8 @@ slice-aggregate-work-2 c = search needs
 
 work-requires : tie.Need-work-requires
 work-requires c κs =
-    let one = c .before .before .before .before .before .before .before .before in
-    let four = one .before .wait-four .ensures ticks globals noted (omega arith) refl refl refl refl in
+    let one = c .before .before .before .before .before .before .before .before .before .before in
+    let four = one .before .wait-four .ensures ticks globals noted none-wait (omega arith) refl refl refl refl in
     (noted, four .0, _, four .1, one .of-event .ensures ticks globals noted (omega arith) refl)
 
 returns : tie.Need-returns
@@ -50,6 +56,7 @@ and-spec =
     (tie.spec
     wait-four-requires
     of-event-requires
+    waiting-in-requires
     all-waiting-requires
     slice-aggregate-write
     write-requires

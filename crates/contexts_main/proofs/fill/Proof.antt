@@ -3,12 +3,18 @@ use Prim.Native.Nat.{_-_, _≤_}
 use borrow.Author.Needs.{needs}
 use Rattle.contexts_main.proofs.fill.Statement.{statement}
 use Rattle.contexts_main.proofs.fill.Tie as tie
+use Rattle.contexts_main.proofs.fill.Reads as reads
+use Rattle.contexts_main.proofs.fill.Lts as lts
+use Rattle.contexts_main.proofs.one_more.Reads as one-more-reads
+use Rattle.contexts_main.proofs.two_leave.Reads as two-leave-reads
+use Rattle.contexts_main.proofs.write.Reads as write-reads
+use Rattle.contexts_main.proofs.write_waiting.Reads as write-waiting-reads
 
 abbrev Inv-loop : tie.InvT-loop
-Inv-loop list₀ n₀ i₀ t10 t11 list n i = i ≤ 18
+Inv-loop list₀ i₀ t4 t5 list i = i ≤ 18
 
 abbrev μ-loop : tie.MeasureT-loop
-μ-loop list₀ n₀ i₀ t10 t11 list n i = 18 - i
+μ-loop list₀ i₀ t4 t5 list i = 18 - i
 
 loop-holds : tie.Need-loop-holds Inv-loop μ-loop
 loop-holds c = search needs
@@ -25,14 +31,8 @@ loop-less c = search needs
 loop-again : tie.Need-loop-again Inv-loop μ-loop
 loop-again c = search needs
 
-with-mark-requires : tie.Need-with-mark-requires Inv-loop μ-loop
-with-mark-requires c κs = search needs
-
-with-mark-requires-2 : tie.Need-with-mark-requires-2 Inv-loop μ-loop
-with-mark-requires-2 c κs = search needs
-
-remove-from-requires : tie.Need-remove-from-requires Inv-loop μ-loop
-remove-from-requires c κs = search needs
+two-leave-requires : tie.Need-two-leave-requires Inv-loop μ-loop
+two-leave-requires c κs = search needs
 
 slice-aggregate-write : tie.Need-slice-aggregate-write Inv-loop μ-loop
 slice-aggregate-write c = search needs
@@ -66,9 +66,7 @@ fill-spec =
     add-i
     loop-less
     loop-again
-    with-mark-requires
-    with-mark-requires-2
-    remove-from-requires
+    two-leave-requires
     slice-aggregate-write
     write-requires
     one-more-requires-2

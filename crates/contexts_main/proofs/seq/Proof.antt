@@ -1,16 +1,17 @@
 -- The five events are noted, four wait and one arrives.
 use mathlib.Core.Path.{refl}
 use native.Mathlib.Omega.{arith}
-use Rattle.contexts_main.proofs.Tables.{globals, noted, ticks}
+use Rattle.contexts_main.proofs.Tables.{globals, none-wait, noted, ticks}
 use borrow.Author.Needs.{needs}
 use Rattle.contexts_main.proofs.seq.Statement.{statement}
 use Rattle.contexts_main.proofs.seq.Tie as tie
 use Rattle.contexts_main.proofs.seq.Reads as reads
 use Rattle.contexts_main.proofs.seq.Lts as lts
+use Rattle.contexts_main.proofs.before.Reads as before-reads
 use Rattle.contexts_main.proofs.wait_four.Reads as wait-four-reads
 use Rattle.contexts_main.proofs.work.Reads as work-reads
+use Rattle.contexts_main.proofs.write.Reads as write-reads
 use Rattle.occurrences.proofs.of_event.Reads as of-event-reads
-use Rattle.contexts.proofs.before_arrival.Reads as before-arrival-reads
 
 wait-four-requires : tie.Need-wait-four-requires
 wait-four-requires c κs = search needs
@@ -18,16 +19,16 @@ wait-four-requires c κs = search needs
 of-event-requires : tie.Need-of-event-requires
 of-event-requires c κs = search needs
 
-slice-aggregate-before-arrival : tie.Need-slice-aggregate-before-arrival
-slice-aggregate-before-arrival c = search needs
+slice-aggregate-before : tie.Need-slice-aggregate-before
+slice-aggregate-before c = search needs
 
-slice-aggregate-before-arrival-2 : tie.Need-slice-aggregate-before-arrival-2
-slice-aggregate-before-arrival-2 c = search needs
+slice-aggregate-before-2 : tie.Need-slice-aggregate-before-2
+slice-aggregate-before-2 c = search needs
 
-before-arrival-requires : tie.Need-before-arrival-requires
-before-arrival-requires c κs =
+before-requires : tie.Need-before-requires
+before-requires c κs =
     let one = c .before .before .before .before in
-    let four = one .before .wait-four .ensures ticks globals noted (omega arith) refl refl refl refl in
+    let four = one .before .wait-four .ensures ticks globals noted none-wait (omega arith) refl refl refl refl in
     (noted, four .0, _, four .1, one .of-event .ensures ticks globals noted (omega arith) refl)
 
 slice-aggregate-write : tie.Need-slice-aggregate-write
@@ -48,7 +49,7 @@ slice-aggregate-work-2 c = search needs
 work-requires : tie.Need-work-requires
 work-requires c κs =
     let one = c .before .before .before .before .before .before .before .before .before .before .before .before in
-    let four = one .before .wait-four .ensures ticks globals noted (omega arith) refl refl refl refl in
+    let four = one .before .wait-four .ensures ticks globals noted none-wait (omega arith) refl refl refl refl in
     (noted, four .0, _, four .1, one .of-event .ensures ticks globals noted (omega arith) refl)
 
 returns : tie.Need-returns
@@ -60,9 +61,9 @@ seq-spec =
     (tie.spec
     wait-four-requires
     of-event-requires
-    slice-aggregate-before-arrival
-    slice-aggregate-before-arrival-2
-    before-arrival-requires
+    slice-aggregate-before
+    slice-aggregate-before-2
+    before-requires
     slice-aggregate-write
     write-requires
     write-requires-2

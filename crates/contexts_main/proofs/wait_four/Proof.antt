@@ -1,6 +1,5 @@
 -- One after the other.
 use mathlib.Core.List.{[]}
-use Rattle.occurrences.proofs.Packed.{stand-none}
 use native.Mathlib.Omega.{arith}
 use borrow.Author.Needs.{needs}
 use Rattle.contexts_main.proofs.wait_four.Statement.{statement}
@@ -26,8 +25,8 @@ returns c =
     let third = c .before .before in
     let second = third .before .before in
     let first = second .before .before in
-    λ ticks globals t many l0 l1 l3 l4.
-    let a = first .add .ensures ticks globals t [] (stand-none t) (omega (arith, many)) l0 in
+    λ ticks globals t none many l0 l1 l3 l4.
+    let a = first .add .ensures ticks globals t [] none (omega (arith, many)) l0 in
     let b = second .add2 .ensures ticks globals t _ a (omega (arith, many)) l1 in
     let d = third .add3 .ensures ticks globals t _ b (omega (arith, many)) l3 in
     (_, c .add4 .ensures ticks globals t _ d (omega (arith, many)) l4)

@@ -17,7 +17,8 @@ use Rattle.gateway.proofs.work_under.Statement.{statement}
 use Rattle.gateway.proofs.work_under.Tie as tie
 use Rattle.gateway.proofs.work_under.Reads as reads
 use Rattle.gateway.proofs.work_under.Lts as lts
-use Rattle.detector.proofs.run_in.Reads as run-in-reads
+use Rattle.detector.proofs.numbers_by_place.Reads as numbers-by-place-reads
+use Rattle.gateway.proofs.run_in_rows.Reads as run-in-rows-reads
 use Rattle.gateway.proofs.ended.Reads as ended-reads
 use Rattle.gateway.proofs.turned_back.Reads as turned-back-reads
 use Rattle.passages.proofs.PassageFault.is_none.Reads as PassageFault-is-none-reads
@@ -91,14 +92,17 @@ returns-2 c =
     ∙ ap (λ n. turnedBack n (q .result .place)) (sym (c .before .number2 .ensures)))
     (c .turned-back2 .ensures _)
 
-run-in-requires : tie.Need-run-in-requires
-run-in-requires c κs =
-    let s = c .before .before .before .before .before .before .before .before .before .before .before .before .before .before .before .before .before .before .before .before .before .before .before .before .before .before .before .before .before in
+numbers-by-place-requires : tie.Need-numbers-by-place-requires
+numbers-by-place-requires c κs = search needs
+
+run-in-rows-requires : tie.Need-run-in-rows-requires
+run-in-rows-requires c κs =
+    let s = c .before .before .before .before .before .before .before .before .before .before .before .before .before .before .before .before .before .before .before .before .before .before .before .before .before .before .before .before in
     let a = answerOf (s .args .read) (s .args .loggers .now) (s .args .kinds .now) (s .args .nodes .now) in
-    let q = c .before .before .before .before .before .before .before .before .before .before .before .before .before .before .check-passage in
+    let q = c .before .before .before .before .before .before .before .before .before .before .before .before .before .check-passage in
     let checked = q .ensures (a .plan) refl refl refl in
-    let passed : numberOf (q .result .fault) ≡ 0 = eqb-true _ _ (sym (c .before .before .before .before .before .before .before .before .before .is-none2 .ensures) ∙ not-false _ (c .before .before .before .before .before .before .before .before .if2 .left)) in
-    (s .pre .3, s .pre .4, s .pre .5, (planClocks (a .plan), noted-themselves _ _ _ _ _ _ _ (checked .1 passed)))
+    let passed : numberOf (q .result .fault) ≡ 0 = eqb-true _ _ (sym (c .before .before .before .before .before .before .before .before .is-none2 .ensures) ∙ not-false _ (c .before .before .before .before .before .before .before .if2 .left)) in
+    (s .pre .0 .nodes-most, (planClocks (a .plan), noted-themselves _ _ _ _ _ _ _ (checked .1 passed)))
 
 ended-requires : tie.Need-ended-requires
 ended-requires c κs = search needs
@@ -112,26 +116,17 @@ same-length-4 c = search needs
 same-length-5 : tie.Need-same-length-5
 same-length-5 c = search needs
 
-same-length-6 : tie.Need-same-length-6
-same-length-6 c = search needs
-
-same-length-7 : tie.Need-same-length-7
-same-length-7 c = search needs
-
-same-length-8 : tie.Need-same-length-8
-same-length-8 c = search needs
-
 returns-3 : tie.Need-returns-3
 returns-3 c =
-    let s = c .before .before .before .before .before .before .before .before .before .before .before .before .before .before .before .before .before .before .before .before .before .before .before .before .before .before .before .before .before .before .before .before .before .before .before .before in
+    let s = c .before .before .before .before .before .before .before .before .before .before .before .before .before .before .before .before .before .before .before .before .before .before .before .before .before .before .before .before .before .before .before .before in
     let a = answerOf (s .args .read) (s .args .loggers .now) (s .args .kinds .now) (s .args .nodes .now) in
-    let fine : eqb (a .number) 0 ≡ true = sym (c .before .before .before .before .before .before .before .before .before .before .before .before .before .before .before .before .before .before .before .before .before .before .before .before .before .before .before .before .before .before .before .is-none .ensures) ∙ not-false _ (c .before .before .before .before .before .before .before .before .before .before .before .before .before .before .before .before .before .before .before .before .before .before .before .before .before .before .before .before .before .before .if1 .left) in
-    let q = c .before .before .before .before .before .before .before .before .before .before .before .before .before .before .before .before .before .before .before .before .before .check-passage in
+    let fine : eqb (a .number) 0 ≡ true = sym (c .before .before .before .before .before .before .before .before .before .before .before .before .before .before .before .before .before .before .before .before .before .before .before .before .before .before .before .is-none .ensures) ∙ not-false _ (c .before .before .before .before .before .before .before .before .before .before .before .before .before .before .before .before .before .before .before .before .before .before .before .before .before .before .if1 .left) in
+    let q = c .before .before .before .before .before .before .before .before .before .before .before .before .before .before .before .before .before .check-passage in
     let checked = q .ensures (a .plan) refl refl refl in
-    let passed : numberOf (q .result .fault) ≡ 0 = eqb-true _ _ (sym (c .before .before .before .before .before .before .before .before .before .before .before .before .before .before .before .before .is-none2 .ensures) ∙ not-false _ (c .before .before .before .before .before .before .before .before .before .before .before .before .before .before .before .if2 .left)) in
+    let passed : numberOf (q .result .fault) ≡ 0 = eqb-true _ _ (sym (c .before .before .before .before .before .before .before .before .before .before .before .before .is-none2 .ensures) ∙ not-false _ (c .before .before .before .before .before .before .before .before .before .before .before .if2 .left)) in
     answers-same _ _ _ _ _
     (both-accepted _ _ a fine (q .result) (checked .0) (rw passed))
-    (c .ended .ensures _ _ _ (ran-noted _ _ _ _ _ _ _ (checked .1 passed) (a .plan) _ _ _ (c .before .before .before .before .before .before .run-in .ensures (a .plan) refl refl (noted-themselves _ _ _ _ _ _ _ (checked .1 passed)))))
+    (c .ended .ensures _ _ _ (ran-noted _ _ _ _ _ _ _ (checked .1 passed) (a .plan) _ _ _ (c .before .before .before .run-in-rows .ensures (a .plan) (c .before .before .before .before .before .before .before .before .before .before .numbers-by-place .ensures) refl (noted-themselves _ _ _ _ _ _ _ (checked .1 passed)))))
 
 pub work-under-spec : {M : Type 1} → statement M
 work-under-spec =
@@ -150,12 +145,10 @@ work-under-spec =
     same-length
     same-length-2
     returns-2
-    run-in-requires
+    numbers-by-place-requires
+    run-in-rows-requires
     ended-requires
     same-length-3
     same-length-4
     same-length-5
-    same-length-6
-    same-length-7
-    same-length-8
     returns-3)

@@ -29,7 +29,7 @@ returns c =
     let two = c .before .before .or-all2 in (
       (λ globals t a b s h g m.
           let f = one .ensures .0 globals t a s h m in
-          let r = rw (one .kept .1 .1 .1 .1 .1 .1 .1 .0) at (two .ensures .0 globals t b _ g f) in
+          let r = rw (one .kept .1 .1 .1 .1 .1 .1 .0) at (two .ensures .0 globals t b _ g f) in
           subst (Emits t _ _ _) (or-both _ _ _ a b s _ _ refl refl) r),
       beyond-then (one .ensures .1) (two .ensures .1),
     )

@@ -1,36 +1,35 @@
--- As many as the rows have of them.
+-- More than are left of 16.
 use Prim.Native.Nat.{_+_}
+use Rattle.operators.proofs.Spares.{over-is}
+use Rattle.waiting_lists.specs.declared.WaitingList.{WaitingList}
+use Prim.Native.Nat.{min}
 use denote.Ref.{now}
 use lib.Dec.{ltb}
-use lib.ListN.{length, length-take, take}
-use mathlib.Core.Path.{_∙_, _≡_, ap₂, sym}
+use lib.ListN.{length}
+use mathlib.Core.Path.{_∙_, ap}
 use native.Mathlib.Omega.{arith}
 use borrow.Author.Needs.{needs}
 use Rattle.operators.proofs.overflows.Statement.{statement}
 use Rattle.operators.proofs.overflows.Tie as tie
 use Rattle.operators.proofs.overflows.Reads as reads
 use Rattle.operators.proofs.overflows.Lts as lts
-use Rattle.operators.proofs.up_to.Reads as up-to-reads
+use Rattle.waiting_lists.proofs.count.Reads as count-reads
+use Rattle.waiting_lists.proofs.list_of.Reads as list-of-reads
 
-up-to-requires : tie.Need-up-to-requires
-up-to-requires c κs = search needs
+list-of-requires : tie.Need-list-of-requires
+list-of-requires c κs = c .pre
 
-up-to-requires-2 : tie.Need-up-to-requires-2
-up-to-requires-2 c κs = search needs
+count-requires : tie.Need-count-requires
+count-requires c κs = search needs
 
-add-result : tie.Need-add-result
-add-result c = search needs
+sub-result : tie.Need-sub-result
+sub-result c = c .count .ensures .1
 
 returns : tie.Need-returns
 returns c =
-    let s = c .before .before .before .before in
-    let list = now (s .args .list) in
-    let arrivals = now (s .args .arrivals) in
-    let sixteen : length list ≡ 16 = search needs in
-    let eight : length arrivals ≡ 8 = search needs in
-    let a : c .before .before .up-to .result ≡ length (take (s .args .waiting) list) = c .before .before .up-to .ensures ∙ sym (length-take (s .args .waiting) list) in
-    let b : c .up-to2 .result ≡ length (take (s .args .count) arrivals) = c .up-to2 .ensures ∙ sym (length-take (s .args .count) arrivals) in
-    (ap₂ (λ x y. ltb 16 (x + y)) a b, omega (arith, length-take (s .args .waiting) list, sixteen))
+    let read = c .before in
+    let m = length (now (read .before .args .arrivals)) in
+    over-is (c .count .result) m (c .count .ensures .1) ∙ ap (λ n. ltb 16 (n + m)) (c .count .ensures .0 ∙ ap (λ (x : WaitingList). min (x .len) 16) (read .list-of .ensures))
 
 pub overflows-spec : {M : Type 1} → statement M
-overflows-spec = tie.close (tie.spec up-to-requires up-to-requires-2 add-result returns)
+overflows-spec = tie.close (tie.spec list-of-requires count-requires sub-result returns)

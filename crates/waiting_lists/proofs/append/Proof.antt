@@ -50,7 +50,7 @@ use denote.Triple.Spec.{Meets, tripleOf}
 use denote.Triple.Table.{entered, cited}
 use denote.Triple.Walked.{says, needs, Stays, stay-ref, stay-none-ref, stay-none-slice, stay-dropped, walkOf, goes-ref, goes-none-ref, goes-none-slice, goes-dropped, Walks, ends-at, walked, walk-meets}
 use denote.Exit.{yes}
-use Rattle.waiting_lists.specs.Steps.{oneMore}
+use Rattle.waiting_lists.specs.Lists.{Appends}
 use Rattle.waiting_lists.specs.declared.WaitingList.{WaitingList}
 use Rattle.waiting_lists.proofs.WaitingList as RWaitingList
 use Rattle.waiting_lists.proofs.WaitingList.Laws as LWaitingList
@@ -121,13 +121,13 @@ module _ {M : Type 1} (𝓤 : URA M) (H : Heap 𝓤) (A : Atoms 𝓤) (W : Given
   goes-to g =
       qed W ([]) ∵ nothing ! $ nothing ! $ owned ! R (Is R) (LL.makes RWaitingList.the-type LWaitingList.the-plain 𝓤 H A) h ((LL.val RWaitingList.the-type LWaitingList.the-laws h) ∷ []) g $ fjoin ! $ move ! (1 ∷ 0 ∷ []) $ join ! $ frame ! $ done !
 
-  said : (r : AfterAppend) → ent 𝓤 (ensured 𝓤 H A callee.ended (callee.clauses 𝓤 H A at-mem run) tt (h, tt) tt r) (fact 𝓤 (r ≡ oneMore h))
-  said r = exE 𝓤 _ (λ ws. snd∗ 𝓤 (sem 𝓤 H A (lasts callee.ended tt (h, tt) ws)) (fact 𝓤 (r ≡ oneMore h)))
+  said : (r : AfterAppend) → ent 𝓤 (ensured 𝓤 H A callee.ended (callee.clauses 𝓤 H A at-mem run) tt (h, tt) tt r) (fact 𝓤 (Appends h (r .place) (r .list)))
+  said r = exE 𝓤 _ (λ ws. snd∗ 𝓤 (sem 𝓤 H A (lasts callee.ended tt (h, tt) ws)) (fact 𝓤 (Appends h (r .place) (r .list))))
 
-  exits : (r : AfterAppend) → r ≡ oneMore h → Is usize (r .place) ((vint w64 (r .place)) ∷ []) → ent 𝓤 (⋆ 𝓤 H A (‵ (fobs γ (R .coded .code (r .list))) ∷ ‵ (fbor κ (Body (mem R) b o γ)) ∷ ‵ (flft κ q) ∷ [])) (Post (vint w64 (r .place)))
+  exits : (r : AfterAppend) → Appends h (r .place) (r .list) → Is usize (r .place) ((vint w64 (r .place)) ∷ []) → ent 𝓤 (⋆ 𝓤 H A (‵ (fobs γ (R .coded .code (r .list))) ∷ ‵ (fbor κ (Body (mem R) b o γ)) ∷ ‵ (flft κ q) ∷ [])) (Post (vint w64 (r .place)))
   exits r e gq =
       qed W (‵ (fobs γ (R .coded .code (r .list))) ∷ ‵ (fbor κ (Body (mem R) b o γ)) ∷ ‵ (flft κ q) ∷ []) ∵
-      suffices ! _ (ends-at 𝓤 H A self.ended stayed (self.clauses 𝓤 H A at-mem run) W (((κ, tt), (q, tt), tt, x, at), tt) (vint w64 (r .place)) (r .place) ((r .list), tt) (tt, tt)) $ says ! (ap (λ (y : AfterAppend). y .place) e, ap (λ (y : AfterAppend). y .list) e) $
+      suffices ! _ (ends-at 𝓤 H A self.ended stayed (self.clauses 𝓤 H A at-mem run) W (((κ, tt), (q, tt), tt, x, at), tt) (vint w64 (r .place)) (r .place) ((r .list), tt) (tt, tt)) $ says ! e $
       nothing ! $ move ! (3 ∷ 0 ∷ []) $ join ! $ frame ! $ feqI ! (List Val) (vptr b o ∷ []) (vptr b o ∷ []) refl $ fjoin3 ! $ nothing ! $ move ! (1 ∷ 0 ∷ []) $ fjoin ! $
       owned ! usize (Is usize) (uint-makes 𝓤 H A W w64) (r .place) ((vint w64 (r .place)) ∷ []) gq $ move ! (1 ∷ 0 ∷ []) $ done !
 
@@ -142,7 +142,7 @@ module _ {M : Type 1} (𝓤 : URA M) (H : Heap 𝓤) (A : Atoms 𝓤) (W : Given
         use0 W (raw (Callee 𝓤 H A at-mem run .pre to)) (goes-to was) $
         calls-at ! fm (Callee 𝓤 H A at-mem run) known to (and-then ! (load ! (from ! (stop !)) (look ! 8 refl)) (no-more !)) (λ w.
         use1 W (later (some (λ (r : AfterAppend). ((‵ ftrue) ⊛ ‵ (RAfterAppend.the-row .own r (w ∷ []))) ⊛ raw (ensured 𝓤 H A callee.ended (callee.clauses 𝓤 H A at-mem run) tt (h, tt) tt r)))) (id⊢ 𝓤 _) $ await ! tt $ pick ! (λ r.
-        split ! $ move ! (1 ∷ []) $ use1 W (raw (fact 𝓤 (r ≡ oneMore h))) (said r) $ heard ! (r ≡ oneMore h) (λ e. split ! $ drop ! $
+        split ! $ move ! (1 ∷ []) $ use1 W (raw (fact 𝓤 (Appends h (r .place) (r .list)))) (said r) $ heard ! (Appends h (r .place) (r .list)) (λ e. split ! $ drop ! $
         peeks ! RAfterAppend.the-row (Is RAfterAppend.the-row) (shows 𝓤 H A RAfterAppend.the-row) r (w ∷ []) (λ is.
         land ! (from ! (stop !)) (init ! 10 refl (LL.lawful RAfterAppend.the-type LAfterAppend.the-laws 𝓤 H A W .typed r _ is .0)) $ drop ! $
         rewrite ! 9 (λ (u : Val). ‵ (fat fullShare LAfterAppend.mir l2 0 u)) (ap only ((LL.tells RAfterAppend.the-type LAfterAppend.the-laws) r (w ∷ []) is)) refl $

@@ -1,69 +1,88 @@
--- The invariant: those counted and those still to count are as many as there are.
-use mathlib.Core.Path.{_≡_, ap, _∙_}
+-- The invariant: of those looked at the ones that stay close up behind the others.
+use mathlib.Core.Path.{_≡_, sym, subst, _∙_}
 use Prim.Native.Nat.{_+_, _-_, _≤_}
 use native.Mathlib.Omega.{arith}
-use lib.ListN.{drop, length}
-use Rattle.sequences.specs.Choice.{pick}
-use Rattle.sequences.specs.Marks.{unmarked}
-use Rattle.sequences.specs.Range.{range}
-use Rattle.sequences.proofs.Marks.{unmarked-end}
-use Rattle.sequences.proofs.Range.{length-range}
-use Rattle.waiting_lists.specs.Marks.{marksOf}
-use Rattle.waiting_lists.specs.Steps.{fewer}
-use Rattle.waiting_lists.proofs.Counts.{count-turn}
-use Rattle.waiting_lists.proofs.Marks.{length-marks}
 use borrow.Author.Needs.{needs}
+use Rattle.waiting_lists.specs.Marks.{marksOf}
+use Rattle.waiting_lists.proofs.Marks.{length-marks}
+use Rattle.waiting_lists.proofs.Removals.{Closing, closing-end, closing-gone, closing-kept, closing-start}
 use Rattle.waiting_lists.proofs.kept.Statement.{statement}
 use Rattle.waiting_lists.proofs.kept.Tie as tie
 
 abbrev Inv-loop : tie.InvT-loop
-Inv-loop gone n k₀ i₀ k i = (i ≤ n) × (k ≤ i) × (k + length (unmarked (drop i (range 0 n)) (drop i (marksOf gone))) ≡ length (unmarked (range 0 n) (marksOf gone)))
+Inv-loop gone order₀ n₀ i₀ order n i = (i ≤ n) × (n ≤ n₀) × (n₀ ≤ 16) × Closing order₀ n₀ (marksOf gone) order n i
 
 abbrev μ-loop : tie.MeasureT-loop
-μ-loop gone n k₀ i₀ k i = n - i
+μ-loop gone order₀ n₀ i₀ order n i = i
 
 count-requires : tie.Need-count-requires Inv-loop μ-loop
 count-requires c κs = search needs
 
 loop-holds : tie.Need-loop-holds Inv-loop μ-loop
-loop-holds c = search needs
+loop-holds c =
+    let a = c .before .args in
+    (search needs, search needs, c .count .ensures .1, closing-start (a .list .order) (c .count .result) (marksOf (a .gone)))
+
+sub-i : tie.Need-sub-i Inv-loop μ-loop
+sub-i c = search needs
 
 is-marked-requires : tie.Need-is-marked-requires Inv-loop μ-loop
 is-marked-requires c κs = search needs
 
-one-unless-requires : tie.Need-one-unless-requires Inv-loop μ-loop
-one-unless-requires c κs = search needs
+sub-n : tie.Need-sub-n Inv-loop μ-loop
+sub-n c = search needs
 
-add-k : tie.Need-add-k Inv-loop μ-loop
-add-k c = search needs
-
-add-i : tie.Need-add-i Inv-loop μ-loop
-add-i c = search needs
+moved-requires : tie.Need-moved-requires Inv-loop μ-loop
+moved-requires c κs = search needs
 
 loop-less : tie.Need-loop-less Inv-loop μ-loop
 loop-less c = search needs
 
 loop-again : tie.Need-loop-again Inv-loop μ-loop
 loop-again c =
+    let m = c .before .before in
+    let b = m .before .before in
+    let n = b .before in
+    let a = n .before .args in
+    let some = m .before .loop-test .taken in
+    let (in-n, in-n₀, most, closing) = b .loop .inv in
+    let e : b .loop .i ≡ b .loop .i - 1 + 1 = omega arith in
+    let cl = subst (Closing (a .list .order) (n .count .result) (marksOf (a .gone)) (b .loop .order) (b .loop .n)) e closing in (
+      omega arith,
+      omega arith,
+      most,
+      closing-gone (a .list .order) (n .count .result) (marksOf (a .gone)) (b .loop .order) (b .loop .n) (b .loop .i - 1) cl (omega arith) in-n₀ (omega (arith, length-marks (a .gone)))
+          (c .moved .result) (c .moved .ensures) (sym (m .is-marked .ensures) ∙ c .before .if1 .taken),
+    )
+
+loop-less-2 : tie.Need-loop-less-2 Inv-loop μ-loop
+loop-less-2 c = search needs
+
+loop-again-2 : tie.Need-loop-again-2 Inv-loop μ-loop
+loop-again-2 c =
     let m = c .before in
     let b = m .before .before in
-    let e = b .before in
-    let a = e .before .args in
-    let l = length-range 0 (e .count .result) in
-    let turn = count-turn (range 0 (e .count .result)) (marksOf (a .gone)) (b .loop .i) 0 (omega (arith, l, m .before .loop-test .taken)) (omega (arith, length-marks (a .gone), e .count .ensures .1, m .before .loop-test .taken)) in
-    let counted = c .one-unless .ensures .0 ∙ ap (λ t. pick t 0 1) (m .is-marked .ensures) in
-    (search needs, omega (arith, b .loop .inv .1, c .one-unless .ensures .1), omega (arith, turn, counted, b .loop .inv .2))
+    let n = b .before in
+    let a = n .before .args in
+    let some = m .before .loop-test .taken in
+    let (in-n, in-n₀, most, closing) = b .loop .inv in
+    let e : b .loop .i ≡ b .loop .i - 1 + 1 = omega arith in
+    let cl = subst (Closing (a .list .order) (n .count .result) (marksOf (a .gone)) (b .loop .order) (b .loop .n)) e closing in (
+      omega arith,
+      in-n₀,
+      most,
+      closing-kept (a .list .order) (n .count .result) (marksOf (a .gone)) (b .loop .order) (b .loop .n) (b .loop .i - 1) cl (omega arith) in-n₀ (omega (arith, length-marks (a .gone)))
+          (sym (m .is-marked .ensures) ∙ c .if1 .left),
+    )
 
 returns : tie.Need-returns Inv-loop μ-loop
-unfolding fewer
 returns c =
     let b = c .before in
-    let e = b .before in
-    let a = e .before .args in
-    let n = e .count .result in
-    let none = ap length (unmarked-end (range 0 n) (marksOf (a .gone)) (b .loop .i) (omega (arith, length-range 0 n, c .loop-test .left))) in
-    let all : b .loop .k ≡ length (unmarked (range 0 n) (marksOf (a .gone))) = omega (arith, none, b .loop .inv .2) in
-    ap (λ k. record { len = k }) (all ∙ ap (λ m. length (unmarked (range 0 m) (marksOf (a .gone)))) (e .count .ensures .0))
+    let n = b .before in
+    let a = n .before .args in
+    let none : b .loop .i ≡ 0 = search needs in
+    closing-end (a .list) (n .count .result) (marksOf (a .gone)) (b .loop .order) (b .loop .n) (n .count .ensures .0)
+    (subst (Closing (a .list .order) (n .count .result) (marksOf (a .gone)) (b .loop .order) (b .loop .n)) none (b .loop .inv .3))
 
 pub kept-spec : {M : Type 1} → statement M
 kept-spec =
@@ -73,10 +92,12 @@ kept-spec =
     μ-loop
     count-requires
     loop-holds
+    sub-i
     is-marked-requires
-    one-unless-requires
-    add-k
-    add-i
+    sub-n
+    moved-requires
     loop-less
     loop-again
+    loop-less-2
+    loop-again-2
     returns)

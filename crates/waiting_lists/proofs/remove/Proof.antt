@@ -51,7 +51,7 @@ use denote.Triple.Table.{entered, cited}
 use denote.Triple.Walked.{says, needs, Stays, stay-ref, stay-none-ref, stay-none-slice, stay-dropped, walkOf, goes-ref, goes-none-ref, goes-none-slice, goes-dropped, Walks, ends-at, walked, walk-meets}
 use denote.Exit.{yes}
 use Rattle.waiting_lists.specs.Marks.{marksOf}
-use Rattle.waiting_lists.specs.Steps.{fewer}
+use Rattle.waiting_lists.specs.Lists.{Removes}
 use Rattle.waiting_lists.specs.declared.WaitingList.{WaitingList}
 use Rattle.waiting_lists.proofs.WaitingList as RWaitingList
 use Rattle.waiting_lists.proofs.WaitingList.Laws as LWaitingList
@@ -115,10 +115,10 @@ module _ {M : Type 1} (𝓤 : URA M) (H : Heap 𝓤) (A : Atoms 𝓤) (W : Given
   goes-to g =
       qed W ([]) ∵ nothing ! $ nothing ! $ owned ! u64 (Is u64) (uint-makes 𝓤 H A W w64) p1 ((vint w64 p1) ∷ []) gp1 $ fjoin ! $ owned ! R (Is R) (LL.makes RWaitingList.the-type LWaitingList.the-plain 𝓤 H A) h ((LL.val RWaitingList.the-type LWaitingList.the-laws h) ∷ []) g $ fjoin ! $ move ! (1 ∷ 0 ∷ []) $ join ! $ frame ! $ done !
 
-  said : (r : WaitingList) → ent 𝓤 (ensured 𝓤 H A callee.ended (callee.clauses 𝓤 H A at-mem run) tt (h, (p1, tt)) tt r) (fact 𝓤 (r ≡ fewer h (marksOf p1)))
-  said r = exE 𝓤 _ (λ ws. snd∗ 𝓤 (sem 𝓤 H A (lasts callee.ended tt (h, (p1, tt)) ws)) (fact 𝓤 (r ≡ fewer h (marksOf p1))))
+  said : (r : WaitingList) → ent 𝓤 (ensured 𝓤 H A callee.ended (callee.clauses 𝓤 H A at-mem run) tt (h, (p1, tt)) tt r) (fact 𝓤 (Removes h (marksOf p1) r))
+  said r = exE 𝓤 _ (λ ws. snd∗ 𝓤 (sem 𝓤 H A (lasts callee.ended tt (h, (p1, tt)) ws)) (fact 𝓤 (Removes h (marksOf p1) r)))
 
-  exits : (r : WaitingList) → r ≡ fewer h (marksOf p1) → ent 𝓤 (⋆ 𝓤 H A (‵ (fobs γ (R .coded .code r)) ∷ ‵ (fbor κ (Body (mem R) b o γ)) ∷ ‵ (flft κ q) ∷ [])) (Post vunit)
+  exits : (r : WaitingList) → Removes h (marksOf p1) r → ent 𝓤 (⋆ 𝓤 H A (‵ (fobs γ (R .coded .code r)) ∷ ‵ (fbor κ (Body (mem R) b o γ)) ∷ ‵ (flft κ q) ∷ [])) (Post vunit)
   exits r e =
       qed W (‵ (fobs γ (R .coded .code r)) ∷ ‵ (fbor κ (Body (mem R) b o γ)) ∷ ‵ (flft κ q) ∷ []) ∵
       suffices ! _ (ends-at 𝓤 H A self.ended stayed (self.clauses 𝓤 H A at-mem run) W (((κ, tt), (q, tt), tt, x, at), tt) vunit tt (r, (tt, tt)) (tt, (tt, tt))) $ says ! e $
@@ -136,7 +136,7 @@ module _ {M : Type 1} (𝓤 : URA M) (H : Heap 𝓤) (A : Atoms 𝓤) (W : Given
         use0 W (raw (Callee 𝓤 H A at-mem run .pre to)) (goes-to was) $
         calls-at ! fm (Callee 𝓤 H A at-mem run) known to (and-then ! (load ! (from ! (stop !)) (look ! 8 refl)) (and-then ! (load ! (from ! (stop !)) (look ! 12 refl)) (no-more !))) (λ w.
         use1 W (later (some (λ (r : WaitingList). ((‵ ftrue) ⊛ ‵ (RWaitingList.the-row .own r (w ∷ []))) ⊛ raw (ensured 𝓤 H A callee.ended (callee.clauses 𝓤 H A at-mem run) tt (h, (p1, tt)) tt r)))) (id⊢ 𝓤 _) $ await ! tt $ pick ! (λ r.
-        split ! $ move ! (1 ∷ []) $ use1 W (raw (fact 𝓤 (r ≡ fewer h (marksOf p1)))) (said r) $ heard ! (r ≡ fewer h (marksOf p1)) (λ e. split ! $ drop ! $
+        split ! $ move ! (1 ∷ []) $ use1 W (raw (fact 𝓤 (Removes h (marksOf p1) r))) (said r) $ heard ! (Removes h (marksOf p1) r) (λ e. split ! $ drop ! $
         peeks ! RWaitingList.the-row (Is RWaitingList.the-row) (shows 𝓤 H A RWaitingList.the-row) r (w ∷ []) (λ is.
         land ! (from ! (stop !)) (init ! 10 refl (LL.lawful RWaitingList.the-type LWaitingList.the-laws 𝓤 H A W .typed r _ is .0)) $ drop ! $
         rewrite ! 9 (λ (u : Val). ‵ (fat fullShare LWaitingList.mir l3 0 u)) (ap only ((LL.tells RWaitingList.the-type LWaitingList.the-laws) r (w ∷ []) is)) refl $

@@ -54,7 +54,7 @@ use types.Tokens.{lft-new, lft-end, lent-back}
 use denote.Lend.{lends-ref, ref-back, lends-shr}
 use denote.Builtin.{unit}
 use denote.Plain.{nothing-lawful}
-use Rattle.waiting_lists.specs.Steps.{oneMore}
+use Rattle.waiting_lists.specs.Lists.{Appends}
 use Rattle.waiting_lists.specs.declared.WaitingList.{WaitingList}
 use Rattle.waiting_lists.proofs.WaitingList as RWaitingList
 use Rattle.waiting_lists.proofs.WaitingList.Laws as LWaitingList
@@ -138,7 +138,7 @@ module _ {M : Type 1} (𝓤 : URA M) (H : Heap 𝓤) (A : Atoms 𝓤) (W : Given
       qed W (‵ (flft (ν ∷ []) fullShare) ∷ ‵ (MutRef (named 0) (ν ∷ []) R .own (lent b δ) (vptr b 0 ∷ [])) ∷ []) ∵ nothing ! $ move ! (1 ∷ 0 ∷ []) $ join ! $ move ! (1 ∷ []) $ nothing ! $ move ! (1 ∷ 0 ∷ []) $ fjoin ! $ move ! (1 ∷ 0 ∷ []) $ join ! $ frame ! $ done !
 
   abbrev Said : ℕ → WaitingList → Type 0
-  Said r z = (r ≡ oneMore h .place) × (z ≡ oneMore h .list)
+  Said r z = Appends h r z
 
   abbrev pair : ℕ → WaitingList → AfterAppend
   pair r z = record { place = r; list = z }
@@ -148,7 +148,7 @@ module _ {M : Type 1} (𝓤 : URA M) (H : Heap 𝓤) (A : Atoms 𝓤) (W : Given
 
   exits : (r : ℕ) (z : WaitingList) → Said r z → Is usize r ((vint w64 r) ∷ []) → Is R z ((LL.val RWaitingList.the-type LWaitingList.the-laws z) ∷ []) → ent 𝓤 (emp 𝓤) (Post (LL.val RAfterAppend.the-type LAfterAppend.the-laws (pair r z)))
   exits r z e gr gz =
-      qed W [] ∵ suffices ! _ (ends-at 𝓤 H A self.ended stayed (self.clauses 𝓤 H A at-mem run) W ((tt, tt, tt, x, at), tt) (LL.val RAfterAppend.the-type LAfterAppend.the-laws (pair r z)) (pair r z) (tt, tt) (tt, tt)) $ says ! (λ j. pair (e .0 j) (e .1 j)) $
+      qed W [] ∵ suffices ! _ (ends-at 𝓤 H A self.ended stayed (self.clauses 𝓤 H A at-mem run) W ((tt, tt, tt, x, at), tt) (LL.val RAfterAppend.the-type LAfterAppend.the-laws (pair r z)) (pair r z) (tt, tt) (tt, tt)) $ says ! e $
       owned ! RAfterAppend.the-row (Is RAfterAppend.the-row) (LL.makes RAfterAppend.the-type LAfterAppend.the-plain 𝓤 H A) (pair r z) ((LL.val RAfterAppend.the-type LAfterAppend.the-laws (pair r z)) ∷ []) (made r z gr gz) $ nothing ! $ nothing ! $ fjoin ! $ nothing ! $ done !
 
   module _ (C : Calls 𝓤 H) (Λ : Loops 𝓤 H) (fm : FmC 𝓤 H (W .laws) C) (known : Triple 𝓤 (C #callee) (Callee 𝓤 H A at-mem run)) where

@@ -55,7 +55,7 @@ use denote.Lend.{lends-ref, ref-back, lends-shr}
 use denote.Builtin.{unit}
 use denote.Plain.{nothing-lawful}
 use Rattle.waiting_lists.specs.Marks.{marksOf}
-use Rattle.waiting_lists.specs.Steps.{fewer}
+use Rattle.waiting_lists.specs.Lists.{Removes}
 use Rattle.waiting_lists.specs.declared.WaitingList.{WaitingList}
 use Rattle.waiting_lists.proofs.WaitingList as RWaitingList
 use Rattle.waiting_lists.proofs.WaitingList.Laws as LWaitingList
@@ -136,9 +136,9 @@ module _ {M : Type 1} (𝓤 : URA M) (H : Heap 𝓤) (A : Atoms 𝓤) (W : Given
       qed W (‵ (flft (ν ∷ []) fullShare) ∷ ‵ (MutRef (named 0) (ν ∷ []) R .own (lent b δ) (vptr b 0 ∷ [])) ∷ []) ∵ nothing ! $ move ! (1 ∷ 0 ∷ []) $ join ! $ move ! (1 ∷ []) $ nothing ! $ owned ! u64 (Is u64) (uint-makes 𝓤 H A W w64) p1 ((vint w64 p1) ∷ []) gp1 $ fjoin ! $ move ! (1 ∷ 0 ∷ []) $ fjoin ! $ move ! (1 ∷ 0 ∷ []) $ join ! $ frame ! $ done !
 
   abbrev Said : Unit {0} → WaitingList → Type 0
-  Said r z = z ≡ fewer h (marksOf p1)
+  Said r z = Removes h (marksOf p1) z
 
-  exits : (r : WaitingList) (u : Val) → r ≡ fewer h (marksOf p1) → Is RWaitingList.the-row r (u ∷ []) → ent 𝓤 (emp 𝓤) (Post u)
+  exits : (r : WaitingList) (u : Val) → Removes h (marksOf p1) r → Is RWaitingList.the-row r (u ∷ []) → ent 𝓤 (emp 𝓤) (Post u)
   exits r u e is =
       qed W [] ∵ suffices ! _ (ends-at 𝓤 H A self.ended stayed (self.clauses 𝓤 H A at-mem run) W ((tt, tt, tt, x, at), tt) u r (tt, (tt, tt)) (tt, (tt, tt))) $ says ! e $
       owned ! RWaitingList.the-row (Is RWaitingList.the-row) (LL.makes RWaitingList.the-type LWaitingList.the-plain 𝓤 H A) r (u ∷ []) is $ nothing ! $ nothing ! $ fjoin ! $ nothing ! $ fjoin ! $ nothing ! $ done !
