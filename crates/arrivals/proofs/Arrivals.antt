@@ -10,7 +10,7 @@ use borrow.Author.Tests.{eq-eqb, ne-eqb}
 use Rattle.sequences.specs.Choice.{pick}
 use Rattle.sequences.specs.Loops.{fold}
 use Rattle.sequences.specs.Marks.{marked, padded, unmarked}
-use Rattle.sequences.specs.Select.{any}
+use Rattle.sequences.specs.Select.{somePasses}
 use Rattle.occurrences.specs.declared.Occurrence.{Occurrence}
 use Rattle.waiting_lists.specs.Waiting.{appendedTo, isFull}
 use Rattle.contexts.specs.Choice.{andCandidates, chosen}
@@ -78,8 +78,8 @@ unfolding joinsBy
 joins-recent context candidates h = rw (eq-eqb context 1 h)
 
 -- of as many as wait on the other side
-any-waits : (n : ℕ) (l : List Occurrence) → length l ≡ n → eqb n 0 ≡ not (any (λ b. b) (andCandidates l))
-unfolding andCandidates padded any
+any-waits : (n : ℕ) (l : List Occurrence) → length l ≡ n → eqb n 0 ≡ not (somePasses (λ b. b) (andCandidates l))
+unfolding andCandidates padded somePasses
 any-waits n [] h = eq-eqb n 0 (omega arith)
 any-waits n (w ∷ l) h = ne-eqb n 0 (λ e. omega (arith, e))
 

@@ -5,7 +5,7 @@ use Prim.Native.Nat.{ℕ}
 use lib.Dec.{eqb}
 use Rattle.sequences.specs.Choice.{pick}
 use Rattle.sequences.specs.Marks.{marked, unmarked}
-use Rattle.sequences.specs.Select.{any}
+use Rattle.sequences.specs.Select.{somePasses}
 use Rattle.timestamps.specs.Order.{Clocks}
 use Rattle.occurrences.specs.declared.Occurrence.{Occurrence}
 use Rattle.waiting_lists.specs.Waiting.{isFull}
@@ -65,7 +65,7 @@ pub record Sides : Type 0 where
   pub emit : Emitting
 
 unfoldable pub joinsBy : ℕ → List Bool → Bool
-joinsBy context candidates = eqb context 1 || not (any (λ b. b) candidates)
+joinsBy context candidates = eqb context 1 || not (somePasses (λ b. b) candidates)
 
 abbrev pub joined : List Occurrence → Met → Sides
 joined other m = record { own = m .list; other = other; emit = m .emit }

@@ -12,8 +12,8 @@ use Rattle.emissions.specs.Emissions.{Emits, Emitting}
 use Rattle.arrivals.specs.Arrivals.{Met, Sides}
 
 -- the place in the output is within it, and there are no more findings than bytes
-abbrev pub Room : Emit → List ℕ → Type 0
-Room e out = (e .at ≤ length out) × (e .findings ≤ e .at)
+abbrev pub InOutput : Emit → List ℕ → Type 0
+InOutput e out = (e .at ≤ length out) × (e .findings ≤ e .at)
 
 -- the list has places for n more, or for 16 in all
 abbrev pub Spare : List (List ℕ) → ℕ → Type 0

@@ -23,7 +23,7 @@ ghost use Rattle.contexts.specs.Table.{rowOf, together};
 ghost use Rattle.emissions.specs.declared.Limit.the-variants.{ListFull};
 ghost use Rattle.emissions.specs.Emissions.{Emits, Emitting, emittedAll, ended, numberOf};
 ghost use Rattle.arrivals.specs.Arrivals.{andArrived, joinsBy, metBy, settingOf, waited};
-ghost use Rattle.arrivals.specs.Views.{AtOne, AtTwo, HoldsMet, HoldsSides, Room, Spare};
+ghost use Rattle.arrivals.specs.Views.{AtOne, AtTwo, HoldsMet, HoldsSides, InOutput, Spare};
 
 // One finding for each taken, in waiting order.
 fn emit_each(
@@ -38,7 +38,7 @@ fn emit_each(
     loggers: &LoggerNumbers,
     out: &mut [u8],
 ) -> Emit
-    requires { ⌜ AtOne (now ticks) (now globals) (now list) e (now made) (now out) (now o) × Room e (now out) ⌝ }
+    requires { ⌜ AtOne (now ticks) (now globals) (now list) e (now made) (now out) (now o) × InOutput e (now out) ⌝ }
     ensures emits { λ r. ⌜ ((t : Notes (now (ticks .entry)) (now (globals .entry))) (l : List Occurrence) (s : Emitting) (x : Occurrence)
         → Waits t (now (list .entry)) l → Emits t e (now (made .entry)) (now (out .entry)) s → Stands t (now (o .entry)) x
         → Emits t r (now (made .exit)) (now (out .exit))
@@ -74,7 +74,7 @@ fn emit_together(
     loggers: &LoggerNumbers,
     out: &mut [u8],
 ) -> Emit
-    requires { ⌜ AtOne (now ticks) (now globals) (now list) e (now made) (now out) (now o) × Room e (now out) ⌝ }
+    requires { ⌜ AtOne (now ticks) (now globals) (now list) e (now made) (now out) (now o) × InOutput e (now out) ⌝ }
     ensures emits { λ r. ⌜ ((t : Notes (now (ticks .entry)) (now (globals .entry))) (l : List Occurrence) (s : Emitting) (x : Occurrence)
         → Waits t (now (list .entry)) l → Emits t e (now (made .entry)) (now (out .entry)) s → Stands t (now (o .entry)) x
         → Emits t r (now (made .exit)) (now (out .exit))
@@ -105,7 +105,7 @@ fn emit_made(
     loggers: &LoggerNumbers,
     out: &mut [u8],
 ) -> Emit
-    requires { ⌜ AtOne (now ticks) (now globals) (now list) e (now made) (now out) (now o) × Room e (now out) ⌝ }
+    requires { ⌜ AtOne (now ticks) (now globals) (now list) e (now made) (now out) (now o) × InOutput e (now out) ⌝ }
     ensures emits { λ r. ⌜ ((t : Notes (now (ticks .entry)) (now (globals .entry))) (l : List Occurrence) (s : Emitting) (x : Occurrence)
         → Waits t (now (list .entry)) l → Emits t e (now (made .entry)) (now (out .entry)) s → Stands t (now (o .entry)) x
         → Emits t r (now (made .exit)) (now (out .exit))
@@ -133,7 +133,7 @@ pub fn meet(
     loggers: &LoggerNumbers,
     out: &mut [u8],
 ) -> Emit
-    requires { ⌜ AtOne (now ticks) (now globals) (now list) e (now made) (now out) (now o) × Room e (now out) ⌝ }
+    requires { ⌜ AtOne (now ticks) (now globals) (now list) e (now made) (now out) (now o) × InOutput e (now out) ⌝ }
     ensures meets { λ r. ⌜ ((t : Notes (now (ticks .entry)) (now (globals .entry))) (l : List Occurrence) (s : Emitting) (x : Occurrence)
         → Waits t (now (list .entry)) l → Emits t e (now (made .entry)) (now (out .entry)) s → Stands t (now (o .entry)) x
         → HoldsMet t r (now (list .exit)) (now (made .exit)) (now (out .exit))
@@ -179,7 +179,7 @@ pub fn full(e: Emit) -> Emit
         → Emits t e made out s → Emits t r made out (ended s (numberOf ListFull))) × (r .at ≡ e .at) × (r .findings ≡ e .findings) ⌝ }
 {
     Emit {
-        limit: emissions::number_of(Limit::ListFull),
+        limit: Limit::ListFull.number(),
         made: e.made,
         findings: e.findings,
         at: e.at,
@@ -231,7 +231,7 @@ pub fn and_arrival(
     loggers: &LoggerNumbers,
     out: &mut [u8],
 ) -> Emit
-    requires { ⌜ AtTwo (now ticks) (now globals) (now own) (now other) e (now made) (now out) (now o) × Room e (now out)
+    requires { ⌜ AtTwo (now ticks) (now globals) (now own) (now other) e (now made) (now out) (now o) × InOutput e (now out)
         × Spare (now own) 1 ⌝ }
     ensures faces { λ r. ⌜ ((t : Notes (now (ticks .entry)) (now (globals .entry))) (l k : List Occurrence) (s : Emitting) (x : Occurrence)
         → Waits t (now (own .entry)) l → Waits t (now (other .entry)) k

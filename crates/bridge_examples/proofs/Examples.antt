@@ -4,8 +4,8 @@ use mathlib.Core.Bool.{true}
 use mathlib.Core.List.{zipWith}
 use Rattle.sequences.specs.Loops.{fold, loop}
 use Rattle.sequences.specs.Marks.{marked, unmarked, padded}
-use Rattle.sequences.specs.Range.{range}
-use Rattle.sequences.specs.Select.{filter, any, all}
+use Rattle.sequences.specs.Range.{numbersFrom}
+use Rattle.sequences.specs.Select.{filter, somePasses, eachPasses}
 use Rattle.timestamps.specs.Comparison.{allBefore, allConcurrent, weaklyBefore}
 use Rattle.timestamps.specs.Composite.{members, tickOf, compositeOf}
 use Rattle.timestamps.specs.Examples as stamps
@@ -35,16 +35,16 @@ use Rattle.working.specs.Working.{worked}
 use Rattle.bridge_examples.specs.Examples.{eachWith, holds, limits, operators, sameNumbers, sameWork, sevens, table}
 
 -- every row of the table: J1 to J8, D1 to D4
-pub table-holds : all holds table ≡ true
-unfolding table holds sameWork sameNumbers stamps.table stamps.holds stamps.sameStamps groupJoin concurrent allConcurrent weaklyBefore worked readPlan planAt readPassage passageEvents eventsIn placeIn section entries piece values valueOf runOf numbersByPlace start eventStep closed nodeStep turned turnAt arrivalsOf nodeTurn arrived seqLeft seqRight waited metBy restOf findingsOf emitted emittedAll numberOf findingBytes findingOf sectionBytes each bigEndian rowOf madeOf seqCandidates chosen takenOf takes removedOf removes isFull isBefore ofEvent combinationOf combinedOf eventsOf stampsOf isSet has elements markedWith unionOf before clearlyEarlier globalOf maxima joinOf members tickOf compositeOf allBefore filter any all range marked unmarked padded zipWith fold loop
+pub table-holds : eachPasses holds table ≡ true
+unfolding table holds sameWork sameNumbers stamps.table stamps.holds stamps.sameStamps groupJoin concurrent allConcurrent weaklyBefore worked readPlan planAt readPassage passageEvents eventsIn placeIn section entries piece values valueOf runOf numbersByPlace start eventStep closed nodeStep turned turnAt arrivalsOf nodeTurn arrived seqLeft seqRight waited metBy restOf findingsOf emitted emittedAll numberOf findingBytes findingOf sectionBytes each bigEndian rowOf madeOf seqCandidates chosen takenOf takes removedOf removes isFull isBefore ofEvent combinationOf combinedOf eventsOf stampsOf isSet has elements markedWith unionOf before clearlyEarlier globalOf maxima joinOf members tickOf compositeOf allBefore filter somePasses eachPasses numbersFrom marked unmarked padded zipWith fold loop
 table-holds = refl
 
 -- every limit
-pub limits-hold : all holds limits ≡ true
-unfolding limits sevens eachWith holds sameWork sameNumbers worked readPlan planAt readPassage passageEvents eventsIn placeIn section entries piece values valueOf runOf numbersByPlace start eventStep closed nodeStep turned turnAt arrivalsOf nodeTurn arrived seqLeft seqRight waited metBy restOf findingsOf emitted emittedAll numberOf findingBytes findingOf sectionBytes each bigEndian rowOf madeOf seqCandidates chosen takenOf takes removedOf removes isFull isBefore ofEvent combinationOf combinedOf eventsOf stampsOf isSet has elements markedWith unionOf before clearlyEarlier globalOf maxima joinOf members tickOf compositeOf allBefore filter any all range marked unmarked padded zipWith fold loop
+pub limits-hold : eachPasses holds limits ≡ true
+unfolding limits sevens eachWith holds sameWork sameNumbers worked readPlan planAt readPassage passageEvents eventsIn placeIn section entries piece values valueOf runOf numbersByPlace start eventStep closed nodeStep turned turnAt arrivalsOf nodeTurn arrived seqLeft seqRight waited metBy restOf findingsOf emitted emittedAll numberOf findingBytes findingOf sectionBytes each bigEndian rowOf madeOf seqCandidates chosen takenOf takes removedOf removes isFull isBefore ofEvent combinationOf combinedOf eventsOf stampsOf isSet has elements markedWith unionOf before clearlyEarlier globalOf maxima joinOf members tickOf compositeOf allBefore filter somePasses eachPasses numbersFrom marked unmarked padded zipWith fold loop
 limits-hold = refl
 
 -- what stays and what goes, by operator and context
-pub operators-hold : all holds operators ≡ true
-unfolding operators holds sameWork sameNumbers andArrived joinsBy orArrived andCandidates worked readPlan planAt readPassage passageEvents eventsIn placeIn section entries piece values valueOf runOf numbersByPlace start eventStep closed nodeStep turned turnAt arrivalsOf nodeTurn arrived seqLeft seqRight waited metBy restOf findingsOf emitted emittedAll numberOf findingBytes findingOf sectionBytes each bigEndian rowOf madeOf seqCandidates chosen takenOf takes removedOf removes isFull isBefore ofEvent combinationOf combinedOf eventsOf stampsOf isSet has elements markedWith unionOf before clearlyEarlier globalOf maxima joinOf members tickOf compositeOf allBefore filter any all range marked unmarked padded zipWith fold loop
+pub operators-hold : eachPasses holds operators ≡ true
+unfolding operators holds sameWork sameNumbers andArrived joinsBy orArrived andCandidates worked readPlan planAt readPassage passageEvents eventsIn placeIn section entries piece values valueOf runOf numbersByPlace start eventStep closed nodeStep turned turnAt arrivalsOf nodeTurn arrived seqLeft seqRight waited metBy restOf findingsOf emitted emittedAll numberOf findingBytes findingOf sectionBytes each bigEndian rowOf madeOf seqCandidates chosen takenOf takes removedOf removes isFull isBefore ofEvent combinationOf combinedOf eventsOf stampsOf isSet has elements markedWith unionOf before clearlyEarlier globalOf maxima joinOf members tickOf compositeOf allBefore filter somePasses eachPasses numbersFrom marked unmarked padded zipWith fold loop
 operators-hold = refl

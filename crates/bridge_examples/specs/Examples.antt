@@ -3,7 +3,7 @@ use mathlib.Core.Bool.{Bool, true, false, _&&_}
 use mathlib.Core.List.{List, [], _∷_, _++_, map}
 use Prim.Native.Nat.{ℕ, _+_}
 use lib.Dec.{eqb}
-use Rattle.sequences.specs.Range.{range}
+use Rattle.sequences.specs.Range.{numbersFrom}
 use Rattle.timestamps.specs.Examples as stamps
 use Rattle.working.specs.Working.{Work, worked}
 
@@ -90,10 +90,10 @@ sevens (tick ∷ l) = seven tick ++ sevens l
 
 -- n events of kind 7, with ticks 0, 1, ..; and such with one of kind 9 after them
 abbrev lefts : ℕ → List ℕ
-lefts n = passage n (sevens (range 0 n))
+lefts n = passage n (sevens (numbersFrom 0 n))
 
 abbrev thenNine : ℕ → List ℕ
-thenNine n = passage (n + 1) (sevens (range 0 n) ++ nine 110)
+thenNine n = passage (n + 1) (sevens (numbersFrom 0 n) ++ nine 110)
 
 -- findings at 2:110, each from one of these events and the last
 unfoldable pub eachWith : List ℕ → ℕ → List ℕ
@@ -106,10 +106,10 @@ limits =
     ∷ ends 32768 (planP 1) (lefts 17) (ending 31 16 0 [])
     ∷ ends 20 (planP 1) passageP (ending 0 0 1 (fromTwo 1 2))
     ∷ ends 19 (planP 1) passageP (ending 33 2 0 [])
-    ∷ ends 32768 (planP 3) (thenNine 8) (ending 0 0 8 (eachWith (range 0 8) 8))  -- eight findings pass
-    ∷ ends 32768 (planP 3) (thenNine 9) (ending 32 9 8 (eachWith (range 0 8) 9))
-    ∷ ends 160 (planP 3) (thenNine 9) (ending 32 9 8 (eachWith (range 0 8) 9))  -- 32 before 33
-    ∷ ends 159 (planP 3) (thenNine 9) (ending 33 9 7 (eachWith (range 0 7) 9))
+    ∷ ends 32768 (planP 3) (thenNine 8) (ending 0 0 8 (eachWith (numbersFrom 0 8) 8))  -- eight findings pass
+    ∷ ends 32768 (planP 3) (thenNine 9) (ending 32 9 8 (eachWith (numbersFrom 0 8) 9))
+    ∷ ends 160 (planP 3) (thenNine 9) (ending 32 9 8 (eachWith (numbersFrom 0 8) 9))  -- 32 before 33
+    ∷ ends 159 (planP 3) (thenNine 9) (ending 33 9 7 (eachWith (numbersFrom 0 7) 9))
     ∷ ends 0 (planP 1) (passage 0 []) (ending 0 0 0 [])  -- no events
     ∷ ends 32768 (planP 1) [] (ending 21 0 0 [])  -- no bytes
     ∷ ends 32768 [] passageP (ending 1 0 0 [])

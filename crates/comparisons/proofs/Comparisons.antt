@@ -12,13 +12,13 @@ use lib.ListN.{length}
 use lib.Seq.{append-snoc}
 use borrow.Author.Tests.{le-ltb, leb-true, lt-ltb}
 use Rattle.sequences.specs.Choice.{pick}
-use Rattle.sequences.specs.Members.{_∈_}
-use Rattle.sequences.specs.Select.{any}
+use Rattle.sequences.specs.Members.{_isIn_}
+use Rattle.sequences.specs.Select.{somePasses}
 use Rattle.sequences.proofs.Booleans.{and-right, either-way, never-both}
 use Rattle.timestamps.specs.declared.Timestamp.{Timestamp}
 use Rattle.timestamps.specs.Comparison.{relationOf}
 use Rattle.timestamps.specs.Order.{Clocks, clearlyEarlier, clocksOf, concurrent, globalOf, valid, validRatio}
-use Rattle.open_calls.specs.declared.Judged.{Judged}
+use Rattle.open_calls.specs.declared.VerdictAt.{VerdictAt}
 use Rattle.open_calls.specs.declared.Verdict.{Verdict}
 use Rattle.open_calls.specs.declared.Verdict.the-variants.{Accepted, BadEntry, NotConcurrent}
 use Rattle.open_calls.specs.Answers.{numberOf, refusal, validLength}
@@ -27,7 +27,7 @@ use Rattle.open_calls.specs.Steps.{joinVerdict}
 use Rattle.comparisons.specs.declared.Comparison.{Comparison}
 use Rattle.comparisons.specs.declared.Gathering.{Gathering}
 use Rattle.comparisons.specs.Answers.{compareAnswer, judged, judgedList, refusedComparison, related}
-use Rattle.comparisons.specs.Notes.{Noted, gatheringOf, noLowest, noNotes, notedDown, spanOf, widenedBy}
+use Rattle.comparisons.specs.Notes.{NotedList, gatheringOf, noLowest, noNotes, notedDown, spanOf, widenedBy}
 use Rattle.comparisons.specs.Steps.{afterFirst, compareDone, compareRun, compareStart, firstGathered, foldGather, gatherStep, gathered, placeAfter, stoppedAt, wider}
 use Rattle.comparisons.proofs.Folds.{gather-next, gather-none, gathered-first, gathered-other, gathered-same}
 use Rattle.comparisons.proofs.Notes.{again-fits, again-in, first-clash, first-fits, noted-first, noted-none, noted-same, other-clash}
@@ -44,12 +44,12 @@ still clocks i a (s ∷ l) r = gather-next clocks i a s l ∙ rw r (still clocks
 
 -- ---- one entry
 abbrev clashes : Clocks → List Timestamp → Timestamp → Bool
-clashes clocks earlier s = any (λ e. not (concurrent clocks e s)) earlier
+clashes clocks earlier s = somePasses (λ e. not (concurrent clocks e s)) earlier
 
 -- not turned back, and the list is noted
 record Kept (clocks : Clocks) (l : List Timestamp) (a : Gathering) : Type 0 where
   accepted : a .span .verdict ≡ Accepted
-  noted : Noted clocks l a
+  noted : NotedList clocks l a
 
 goes-on : (clocks : Clocks) (l : List Timestamp) (a : Gathering) → Kept clocks l a → refusal (a .span .verdict) ≡ false
 unfolding refusal numberOf
@@ -77,7 +77,7 @@ module _ (clocks : Clocks) (i : ℕ) (a : Gathering) (s : Timestamp) (earlier : 
 
     step-again : note ≡ localNote s → Goes
     step-again e =
-        let m : s ∈ earlier = again-in clocks earlier a (k .noted) s v e in (
+        let m : s isIn earlier = again-in clocks earlier a (k .noted) s v e in (
           again-fits clocks earlier a (k .noted) s v e,
           rw (step-is a (gathered-same clocks (a .span) (a .notes) s i e)) (record {
             accepted = k .accepted;
@@ -133,7 +133,7 @@ record Gathered (ratio place i : ℕ) (earlier l : List Timestamp) (a : Gatherin
   verdict : a .span .verdict ≡ judged ratio earlier (place + i) l .verdict
   at : refusal (a .span .verdict) ≡ true → place + a .span .place ≡ judged ratio earlier (place + i) l .place
   most : refusal (a .span .verdict) ≡ true → a .span .place < i + length l
-  noted : refusal (a .span .verdict) ≡ false → Noted (clocksOf ratio) (earlier ++ l) a
+  noted : refusal (a .span .verdict) ≡ false → NotedList (clocksOf ratio) (earlier ++ l) a
 
 module _ (ratio place i : ℕ) (earlier : List Timestamp) (s : Timestamp) (l : List Timestamp) where
   judged-invalid : valid s ≡ false → judged ratio earlier (place + i) (s ∷ l) ≡ record { verdict = BadEntry; place = place + i }
@@ -154,8 +154,8 @@ module _ (ratio place i : ℕ) (earlier : List Timestamp) (s : Timestamp) (l : L
   refused-here : (a : Gathering) (v : Verdict) → refusal v ≡ true → judged ratio earlier (place + i) (s ∷ l) ≡ record { verdict = v; place = place + i }
       → Gathered ratio place i earlier (s ∷ l) (foldGather (clocksOf ratio) (suc i) (stoppedAt a v i) l)
   refused-here a v r e = rw (still (clocksOf ratio) (suc i) (stoppedAt a v i) l r) (record {
-    verdict = sym (ap (λ (j : Judged). j .verdict) e);
-    at = λ _. sym (ap (λ (j : Judged). j .place) e);
+    verdict = sym (ap (λ (j : VerdictAt). j .verdict) e);
+    at = λ _. sym (ap (λ (j : VerdictAt). j .place) e);
     most = λ _. omega arith;
     noted = λ n. absurd (never-both r n);
   })
@@ -164,8 +164,8 @@ module _ (ratio place i : ℕ) (earlier : List Timestamp) (s : Timestamp) (l : L
   gone-on : (a : Gathering) → judged ratio earlier (place + i) (s ∷ l) ≡ judged ratio (earlier ++ (s ∷ [])) (place + suc i) l
       → Gathered ratio place (suc i) (earlier ++ (s ∷ [])) l a → Gathered ratio place i earlier (s ∷ l) a
   gone-on a e g = record {
-    verdict = g .verdict ∙ sym (ap (λ (j : Judged). j .verdict) e);
-    at = λ r. g .at r ∙ sym (ap (λ (j : Judged). j .place) e);
+    verdict = g .verdict ∙ sym (ap (λ (j : VerdictAt). j .verdict) e);
+    at = λ r. g .at r ∙ sym (ap (λ (j : VerdictAt). j .place) e);
     most = λ r. let m : a .span .place < suc i + length l = g .most r in omega arith;
     noted = λ r. rw (← append-snoc earlier s l) (g .noted r);
   }

@@ -10,8 +10,8 @@ use lib.Dec.{lit<, ltb}
 use lib.ListN.{getD-replicate, length, length-set, set}
 use lib.Seq.{getD-set-same, getD-set-other}
 use borrow.Author.Tests.{le-ltb, lt-ltb, ltb-true}
-use Rattle.sequences.specs.Members.{_∈_, SameMembers}
-use Rattle.sequences.specs.Select.{any}
+use Rattle.sequences.specs.Members.{_isIn_, SameMembers}
+use Rattle.sequences.specs.Select.{somePasses}
 use Rattle.sequences.proofs.Booleans.{and-both, and-left, and-right, or-cases, or-left, or-right, same-test}
 use Rattle.sequences.proofs.Select.{any-in, any-none, any-of}
 use Rattle.timestamps.specs.declared.Timestamp.{Timestamp}
@@ -21,7 +21,7 @@ use Rattle.timestamps.proofs.Groupings.{valid-place, valid-tick}
 use Rattle.timestamps.proofs.Order.{before-one, before-two, clear-before, global-small}
 use Rattle.open_calls.specs.Notes.{localNote, noteAt}
 use Rattle.comparisons.specs.declared.Gathering.{Gathering}
-use Rattle.comparisons.specs.Notes.{Noted, NotedIn, gatheringOf, noLowest, noNotes, notedAt, notedDown, spanOf, widenedBy}
+use Rattle.comparisons.specs.Notes.{NotedList, NotedIn, gatheringOf, noLowest, noNotes, notedAt, notedDown, spanOf, widenedBy}
 
 pub global-fits : (clocks : Clocks) (s : Timestamp) → valid s ≡ true → globalOf clocks s .0 < noLowest
 global-fits clocks s v =
@@ -32,7 +32,7 @@ global-fits clocks s v =
 
 -- ---- a list and its gathering
 module _ (clocks : Clocks) where
-  pub noted-none : Noted clocks [] (gatheringOf (spanOf noLowest 0) noNotes)
+  pub noted-none : NotedList clocks [] (gatheringOf (spanOf noLowest 0) noNotes)
   noted-none = record {
     sized = refl;
     each = λ s m. absurd (List·Memᴰ·not-nil m);
@@ -46,9 +46,9 @@ module _ (clocks : Clocks) where
       none-at : (k : ℕ) → k < 8 → noteAt noNotes k ≡ 0
       none-at k l = getD-replicate 16 k 0 0 (omega arith)
 
-  module _ (l : List Timestamp) (a : Gathering) (n : Noted clocks l a) where
+  module _ (l : List Timestamp) (a : Gathering) (n : NotedList clocks l a) where
     -- no two are clearly apart
-    apart : (s t : Timestamp) → s ∈ l → t ∈ l → before clocks s t ≡ false
+    apart : (s t : Timestamp) → s isIn l → t isIn l → before clocks s t ≡ false
     apart s t i j = elim (ℕ-discrete (s .logger) (t .logger)) [
       | yes e ↦ before-one clocks s t e ∙ le-ltb (s .tick .0) (t .tick .0)
           (let f : localNote s ≡ localNote t = sym (n .each s i .local) ∙ ap (noteAt (a .notes)) e ∙ n .each t j .local in omega arith)
@@ -68,9 +68,9 @@ module _ (clocks : Clocks) where
       noted = notedAt (a .notes) (s .logger)
 
       -- a test of timestamps: by what `clear` says where the loggers differ, else by what is noted of its logger
-      meets : (p : Timestamp → Bool) (clear : Bool) → ((e : Timestamp) → e ∈ l → (e .logger ≡ s .logger → ⊥) → p e ≡ true → clear ≡ true)
-          → (clear ≡ true → any p l ≡ true) → any p l ≡ (clear || (ltb 0 own && p noted))
-      meets p clear there back = same-test (any p l) (clear || (ltb 0 own && p noted))
+      meets : (p : Timestamp → Bool) (clear : Bool) → ((e : Timestamp) → e isIn l → (e .logger ≡ s .logger → ⊥) → p e ≡ true → clear ≡ true)
+          → (clear ≡ true → somePasses p l ≡ true) → somePasses p l ≡ (clear || (ltb 0 own && p noted))
+      meets p clear there back = same-test (somePasses p l) (clear || (ltb 0 own && p noted))
           (λ h. let (e, i, b) = any-of p l h in elim (ℕ-discrete (e .logger) (s .logger)) [
             | yes q ↦ (let o : own ≡ localNote e = ap (noteAt (a .notes)) (sym q) ∙ n .each e i .local in
                 or-right clear _ (and-both (ltb 0 own) (p noted) (lt-ltb 0 own (omega arith)) (ap p (same-stamp noted e (sym q) (omega arith)) ∙ b)))
@@ -79,7 +79,7 @@ module _ (clocks : Clocks) where
           (λ h. ⊎-elim back (λ x. any-in p l (n .held (s .logger) spot (ltb-true 0 own (and-left (ltb 0 own) (p noted) x))) (and-right (ltb 0 own) (p noted) x)) (or-cases clear _ h))
 
       -- one before it
-      pub met-earlier : any (λ e. before clocks e s) l ≡ (ltb (a .span .lowest .0 + 1) g || (ltb 0 own && ltb (own - 1) (s .tick .0)))
+      pub met-earlier : somePasses (λ e. before clocks e s) l ≡ (ltb (a .span .lowest .0 + 1) g || (ltb 0 own && ltb (own - 1) (s .tick .0)))
       met-earlier = meets (λ e. before clocks e s) (ltb (a .span .lowest .0 + 1) g)
           (λ e i d b. let x : a .span .lowest .0 ≤ globalOf clocks e .0 = n .each e i .low in
           let k : globalOf clocks e .0 + 1 < g = ltb-true _ _ (sym (before-two clocks e s d) ∙ b) in lt-ltb (a .span .lowest .0 + 1) g (omega arith))
@@ -88,7 +88,7 @@ module _ (clocks : Clocks) where
           ∙ rw (before-one clocks noted s refl)
 
       -- one after it
-      pub met-later : any (before clocks s) l ≡ (ltb (g + 1) (a .span .highest .0) || (ltb 0 own && ltb (s .tick .0) (own - 1)))
+      pub met-later : somePasses (before clocks s) l ≡ (ltb (g + 1) (a .span .highest .0) || (ltb 0 own && ltb (s .tick .0) (own - 1)))
       met-later = meets (before clocks s) (ltb (g + 1) (a .span .highest .0))
           (λ e i d b. let x : globalOf clocks e .0 ≤ a .span .highest .0 = n .each e i .high in
           let k : g + 1 < globalOf clocks e .0 = ltb-true _ _ (sym (before-two clocks s e (λ q. d (sym q))) ∙ b) in lt-ltb (g + 1) (a .span .highest .0) (omega arith))
@@ -107,11 +107,11 @@ module _ (clocks : Clocks) where
       abbrev clash : Timestamp → Bool
       clash e = not (concurrent clocks e s)
 
-      clash-earlier : (e : Timestamp) → e ∈ l → before clocks e s ≡ true → any clash l ≡ true
+      clash-earlier : (e : Timestamp) → e isIn l → before clocks e s ≡ true → somePasses clash l ≡ true
       unfolding concurrent
       clash-earlier e i b = any-in clash l i (rw b)
 
-      clash-later : (e : Timestamp) → e ∈ l → before clocks s e ≡ true → any clash l ≡ true
+      clash-later : (e : Timestamp) → e isIn l → before clocks s e ≡ true → somePasses clash l ≡ true
       unfolding concurrent
       clash-later e i b = any-in clash l i (rw b (and-no (before clocks e s)))
         where
@@ -119,21 +119,21 @@ module _ (clocks : Clocks) where
           and-no true = refl
           and-no false = refl
 
-      clash-none : ((e : Timestamp) → e ∈ l → (before clocks e s ≡ false) × (before clocks s e ≡ false)) → any clash l ≡ false
+      clash-none : ((e : Timestamp) → e isIn l → (before clocks e s ≡ false) × (before clocks s e ≡ false)) → somePasses clash l ≡ false
       unfolding concurrent
       clash-none f = any-none clash l (λ e i. rw (f e i .0, f e i .1))
 
       -- the same again
-      pub again-in : note ≡ localNote s → s ∈ l
+      pub again-in : note ≡ localNote s → s isIn l
       again-in e = Memᴰ·cast (same-stamp s (notedAt (a .notes) (s .logger)) refl (omega arith)) (n .held (s .logger) (valid-place s v) (omega arith))
 
-      pub again-fits : note ≡ localNote s → any clash l ≡ false
+      pub again-fits : note ≡ localNote s → somePasses clash l ≡ false
       again-fits e = clash-none (λ x i. (apart x s i (again-in e), apart s x (again-in e) i))
 
       -- another of its logger
-      pub other-clash : (note ≡ localNote s → ⊥) → (note ≡ 0 → ⊥) → any clash l ≡ true
+      pub other-clash : (note ≡ localNote s → ⊥) → (note ≡ 0 → ⊥) → somePasses clash l ≡ true
       other-clash d z =
-          let i : notedAt (a .notes) (s .logger) ∈ l = n .held (s .logger) (valid-place s v) (omega (arith, z)) in
+          let i : notedAt (a .notes) (s .logger) isIn l = n .held (s .logger) (valid-place s v) (omega (arith, z)) in
           elim (decLt (note - 1) (s .tick .0)) [
             | yes k ↦ clash-earlier (notedAt (a .notes) (s .logger)) i (before-one clocks (notedAt (a .notes) (s .logger)) s refl ∙ lt-ltb (note - 1) (s .tick .0) k)
             | no k ↦ clash-later (notedAt (a .notes) (s .logger)) i (before-one clocks s (notedAt (a .notes) (s .logger)) refl ∙ lt-ltb (s .tick .0) (note - 1) (omega (arith, k, d, z)))
@@ -141,17 +141,17 @@ module _ (clocks : Clocks) where
 
       -- the first of its logger
       module _ (z : note ≡ 0) where
-        differs : (e : Timestamp) → e ∈ l → e .logger ≡ s .logger → ⊥
+        differs : (e : Timestamp) → e isIn l → e .logger ≡ s .logger → ⊥
         differs e i q = let o : note ≡ localNote e = ap (noteAt (a .notes)) (sym q) ∙ n .each e i .local in omega arith
 
-        pub first-clash : min (a .span .lowest .0) global + 1 < max (a .span .highest .0) global → any clash l ≡ true
+        pub first-clash : min (a .span .lowest .0) global + 1 < max (a .span .highest .0) global → somePasses clash l ≡ true
         first-clash h = elim (decLt (global + 1) (a .span .highest .0)) [
           | yes c ↦ (let (e, i, f) = n .highest (omega arith) in clash-later e i (clear-before clocks s e (omega arith)))
           | no c ↦ (let x = n .near in let y = global-fits clocks s v in let (e, i, f) = n .lowest (omega (arith, h, c, x, y)) in
               clash-earlier e i (clear-before clocks e s (omega (arith, h, c, x, f))))
         ]
 
-        pub first-fits : max (a .span .highest .0) global ≤ min (a .span .lowest .0) global + 1 → any clash l ≡ false
+        pub first-fits : max (a .span .highest .0) global ≤ min (a .span .lowest .0) global + 1 → somePasses clash l ≡ false
         first-fits h = clash-none (λ e i. (
           before-two clocks e s (differs e i) ∙ le-ltb (globalOf clocks e .0 + 1) global (let x = n .each e i .low in omega (arith, h, x)),
           before-two clocks s e (λ q. differs e i (sym q)) ∙ le-ltb (global + 1) (globalOf clocks e .0) (let x = n .each e i .high in omega (arith, h, x)),
@@ -187,7 +187,7 @@ module _ (clocks : Clocks) where
         abbrev more : Gathering
         more = gatheringOf (widenedBy (a .span) (globalOf clocks s)) next
 
-        earlier-noted : (e : Timestamp) → e ∈ l → NotedIn clocks more e
+        earlier-noted : (e : Timestamp) → e isIn l → NotedIn clocks more e
         unfolding widenedBy
         earlier-noted e i =
             let x : NotedIn clocks a e = n .each e i in let p : k < 8 = valid-place s v in
@@ -203,7 +203,7 @@ module _ (clocks : Clocks) where
         unfolding widenedBy
         own-noted = record { place = valid-place s v; local = next-own; global = next-global; low = omega arith; high = omega arith }
 
-        pub noted-first : max (a .span .highest .0) global ≤ min (a .span .lowest .0) global + 1 → Noted clocks (l ++ (s ∷ [])) more
+        pub noted-first : max (a .span .highest .0) global ≤ min (a .span .lowest .0) global + 1 → NotedList clocks (l ++ (s ∷ [])) more
         unfolding widenedBy
         noted-first h = record {
           sized = next-sized;
@@ -225,7 +225,7 @@ module _ (clocks : Clocks) where
           fits = let x : a .span .highest .0 < noLowest = n .fits in let y : global < noLowest = global-fits clocks s v in omega arith;
         }
 
-  pub noted-same : (l m : List Timestamp) (a : Gathering) → SameMembers l m → Noted clocks l a → Noted clocks m a
+  pub noted-same : (l m : List Timestamp) (a : Gathering) → SameMembers l m → NotedList clocks l a → NotedList clocks m a
   noted-same l m a w n = record {
     sized = n .sized;
     each = λ s i. n .each s (w .1 s i);

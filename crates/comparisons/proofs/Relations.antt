@@ -10,9 +10,9 @@ use lib.Dec.{eqb, ltb}
 use borrow.Author.Tests.{eq-eqb, eqb-true, le-ltb, lt-ltb, ne-eqb}
 use Rattle.sequences.specs.Choice.{pick}
 use Rattle.sequences.specs.Loops.{fold}
-use Rattle.sequences.specs.Members.{_∈_}
-use Rattle.sequences.specs.Range.{range}
-use Rattle.sequences.specs.Select.{all, any}
+use Rattle.sequences.specs.Members.{_isIn_}
+use Rattle.sequences.specs.Range.{numbersFrom}
+use Rattle.sequences.specs.Select.{eachPasses, somePasses}
 use Rattle.sequences.proofs.Booleans.{or-cases, or-left, or-right, same-test}
 use Rattle.sequences.proofs.Range.{each-done, each-turn, range-in, range-of}
 use Rattle.sequences.proofs.Select.{all-and, all-in, all-not, all-of, all-same}
@@ -28,7 +28,7 @@ use Rattle.open_calls.specs.Notes.{localNote, noteAt}
 use Rattle.comparisons.specs.declared.Gathering.{Gathering}
 use Rattle.comparisons.specs.declared.Meeting.{Meeting}
 use Rattle.comparisons.specs.declared.Span.{Span}
-use Rattle.comparisons.specs.Notes.{Noted, allRelated, meetingOf, noLowest, notedAt, relatedAt, relatedBy, relatedNotes, tickOf}
+use Rattle.comparisons.specs.Notes.{NotedList, allRelated, meetingOf, noLowest, notedAt, relatedAt, relatedBy, relatedNotes, tickOf}
 use Rattle.comparisons.proofs.Notes.{met-earlier, met-later}
 
 -- ---- as the code tells it
@@ -53,7 +53,7 @@ related-told a own note g r m n b c w z e f h j k = rw (ne-eqb note 0 z, ← e, 
 
 -- from place k on
 unfoldable pub relatedRest : Span → List ℕ → List ℕ → Relation → ℕ → Relation
-relatedRest a first second r k = fold (λ q j. relatedAt a (noteAt first j) (noteAt second j) (noteAt second (j + 8)) q) (range k (8 - k)) r
+relatedRest a first second r k = fold (λ q j. relatedAt a (noteAt first j) (noteAt second j) (noteAt second (j + 8)) q) (numbersFrom k (8 - k)) r
 
 module _ (a : Span) (first second : List ℕ) where
   abbrev step : Relation → ℕ → Relation
@@ -96,11 +96,11 @@ one-more false r m x y z = λ i. record {
 
 module _ (skip : ℕ → Bool) (m : ℕ → Meeting) where
   fold-related : (ks : List ℕ) (r : Relation) → fold (λ q k. oneMore (skip k) q (m k)) ks r ≡ record {
-    before = r .before && all (λ k. skip k || m k .earlier) ks;
-    concurrent = r .concurrent && all (λ k. skip k || (not (m k .earlier) && not (m k .later))) ks;
-    «weakly_before» = r .«weakly_before» && all (λ k. skip k || not (m k .later)) ks;
+    before = r .before && eachPasses (λ k. skip k || m k .earlier) ks;
+    concurrent = r .concurrent && eachPasses (λ k. skip k || (not (m k .earlier) && not (m k .later))) ks;
+    «weakly_before» = r .«weakly_before» && eachPasses (λ k. skip k || not (m k .later)) ks;
   }
-  unfolding fold all
+  unfolding fold eachPasses
   fold-related [] r = λ i. record {
     before = sym (and-true (r .before)) i;
     concurrent = sym (and-true (r .concurrent)) i;
@@ -109,21 +109,21 @@ module _ (skip : ℕ → Bool) (m : ℕ → Meeting) where
   fold-related (k ∷ ks) r = fold-related ks (oneMore (skip k) r (m k)) ∙ one-more (skip k) r (m k) _ _ _
 
 -- a test over a list, as one over the places
-all-noted : (clocks : Clocks) (l : List Timestamp) (a : Gathering) → Noted clocks l a → (p : Timestamp → Bool)
-    → all p l ≡ all (λ k. eqb (noteAt (a .notes) k) 0 || p (notedAt (a .notes) k)) loggerPlaces
+all-noted : (clocks : Clocks) (l : List Timestamp) (a : Gathering) → NotedList clocks l a → (p : Timestamp → Bool)
+    → eachPasses p l ≡ eachPasses (λ k. eqb (noteAt (a .notes) k) 0 || p (notedAt (a .notes) k)) loggerPlaces
 all-noted clocks l a n p =
-    same-test (all p l) (all test loggerPlaces) (λ h. all-in test loggerPlaces (λ k i. there h k (range-of 0 8 i .1))) (λ h. all-in p l (back h))
+    same-test (eachPasses p l) (eachPasses test loggerPlaces) (λ h. all-in test loggerPlaces (λ k i. there h k (range-of 0 8 i .1))) (λ h. all-in p l (back h))
   where
     test : ℕ → Bool
     test k = eqb (noteAt (a .notes) k) 0 || p (notedAt (a .notes) k)
 
-    there : all p l ≡ true → (k : ℕ) → k < 8 → test k ≡ true
+    there : eachPasses p l ≡ true → (k : ℕ) → k < 8 → test k ≡ true
     there h k m = elim (ℕ-discrete (noteAt (a .notes) k) 0) [
       | yes z ↦ or-left (eqb (noteAt (a .notes) k) 0) (p (notedAt (a .notes) k)) (eq-eqb (noteAt (a .notes) k) 0 z)
       | no z ↦ or-right (eqb (noteAt (a .notes) k) 0) (p (notedAt (a .notes) k)) (all-of p l h (n .held k m (omega (arith, z))))
     ]
 
-    back : all test loggerPlaces ≡ true → (s : Timestamp) → s ∈ l → p s ≡ true
+    back : eachPasses test loggerPlaces ≡ true → (s : Timestamp) → s isIn l → p s ≡ true
     back h s i =
         let o : noteAt (a .notes) (s .logger) ≡ localNote s = n .each s i .local in
         ⊎-elim
@@ -132,7 +132,7 @@ all-noted clocks l a n p =
         (or-cases (eqb (noteAt (a .notes) (s .logger)) 0) (p (notedAt (a .notes) (s .logger))) (all-of test loggerPlaces h (range-in 0 8 (s .logger) (omega arith) (n .each s i .place))))
 
 -- ---- and as document 01 has it
-module _ (clocks : Clocks) (a b : List Timestamp) (first second : Gathering) (n : Noted clocks a first) (o : Noted clocks b second) where
+module _ (clocks : Clocks) (a b : List Timestamp) (first second : Gathering) (n : NotedList clocks a first) (o : NotedList clocks b second) where
   abbrev skip : ℕ → Bool
   skip k = eqb (noteAt (second .notes) k) 0
 
@@ -143,28 +143,28 @@ module _ (clocks : Clocks) (a b : List Timestamp) (first second : Gathering) (n 
   stamp k = notedAt (second .notes) k
 
   abbrev hasEarlier : Timestamp → Bool
-  hasEarlier t = any (λ s. before clocks s t) a
+  hasEarlier t = somePasses (λ s. before clocks s t) a
 
   abbrev hasLater : Timestamp → Bool
-  hasLater t = any (before clocks t) a
+  hasLater t = somePasses (before clocks t) a
 
   met : (k : ℕ) → k < 8 → (noteAt (second .notes) k ≡ 0 → ⊥) → (hasEarlier (stamp k) ≡ meeting k .earlier) × (hasLater (stamp k) ≡ meeting k .later)
   unfolding meetingOf clearlyEarlier
   met k m z =
-      let i : stamp k ∈ b = o .held k m (omega (arith, z)) in
+      let i : stamp k isIn b = o .held k m (omega (arith, z)) in
       let f : noteAt (second .notes) (k + 8) ≡ globalOf clocks (stamp k) .0 = o .each (stamp k) i .global in
       let x : globalOf clocks (stamp k) .0 < noLowest = let y = o .each (stamp k) i .high in let w = o .fits in omega (arith, y, w) in
       (rw f (met-earlier clocks a first n (stamp k) x m), rw f (met-later clocks a first n (stamp k) x m))
 
   -- the test p of a timestamp is the test q of how the first list meets it
   places : (p : Timestamp → Bool) (q : Meeting → Bool) → ((k : ℕ) → k < 8 → (noteAt (second .notes) k ≡ 0 → ⊥) → p (stamp k) ≡ q (meeting k))
-      → all p b ≡ all (λ k. skip k || q (meeting k)) loggerPlaces
+      → eachPasses p b ≡ eachPasses (λ k. skip k || q (meeting k)) loggerPlaces
   places p q f = all-noted clocks b second o p ∙ all-same _ _ loggerPlaces (λ k i. elim (ℕ-discrete (noteAt (second .notes) k) 0) [
     | yes z ↦ rw (eq-eqb (noteAt (second .notes) k) 0 z)
     | no z ↦ ap (λ x. skip k || x) (f k (range-of 0 8 i .1) z)
   ])
 
-  apart : (t : Timestamp) → all (λ s. concurrent clocks s t) a ≡ (not (hasEarlier t) && not (hasLater t))
+  apart : (t : Timestamp) → eachPasses (λ s. concurrent clocks s t) a ≡ (not (hasEarlier t) && not (hasLater t))
   unfolding concurrent
   apart t = all-and (λ s. not (before clocks s t)) (λ s. not (before clocks t s)) a ∙ rw (all-not (λ s. before clocks s t) a, all-not (before clocks t) a)
 
@@ -172,6 +172,6 @@ module _ (clocks : Clocks) (a b : List Timestamp) (first second : Gathering) (n 
   unfolding relatedNotes relatedAt relationOf allBefore allConcurrent weaklyBefore
   relation-is = fold-related skip meeting loggerPlaces allRelated ∙ (λ i. record {
     before = sym (places hasEarlier (λ m. m .earlier) (λ k l z. met k l z .0)) i;
-    concurrent = sym (places (λ t. all (λ s. concurrent clocks s t) a) (λ m. not (m .earlier) && not (m .later)) (λ k l z. apart (stamp k) ∙ rw (met k l z .0, met k l z .1))) i;
+    concurrent = sym (places (λ t. eachPasses (λ s. concurrent clocks s t) a) (λ m. not (m .earlier) && not (m .later)) (λ k l z. apart (stamp k) ∙ rw (met k l z .0, met k l z .1))) i;
     «weakly_before» = sym (sym (all-not hasLater b) ∙ places (λ t. not (hasLater t)) (λ m. not (m .later)) (λ k l z. ap not (met k l z .1))) i;
   })

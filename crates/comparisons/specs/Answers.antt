@@ -4,12 +4,12 @@ use mathlib.Core.List.{List, [], _∷_, _++_}
 use Prim.Native.Nat.{ℕ, suc}
 use lib.ListN.{length}
 use Rattle.sequences.specs.Choice.{pick}
-use Rattle.sequences.specs.Select.{any}
+use Rattle.sequences.specs.Select.{somePasses}
 use Rattle.timestamps.specs.declared.Timestamp.{Timestamp}
 use Rattle.timestamps.specs.declared.Relation.{Relation}
 use Rattle.timestamps.specs.Comparison.{relationOf}
 use Rattle.timestamps.specs.Order.{clocksOf, concurrent, valid, validRatio}
-use Rattle.open_calls.specs.declared.Judged.{Judged}
+use Rattle.open_calls.specs.declared.VerdictAt.{VerdictAt}
 use Rattle.open_calls.specs.declared.Verdict.{Verdict}
 use Rattle.open_calls.specs.declared.Verdict.the-variants.{Accepted, BadRatio, BadLength, BadEntry, NotConcurrent}
 use Rattle.open_calls.specs.Answers.{numberOf, refusal, validLength}
@@ -20,15 +20,15 @@ unfoldable pub refusedComparison : Verdict → ℕ → Comparison
 refusedComparison v place = record { number = numberOf v; place = place; before = false; concurrent = false; «weakly_before» = false }
 
 -- entry by entry, 36 before 37: an entry not concurrent with an earlier one of its list
-unfoldable pub judged : ℕ → List Timestamp → ℕ → List Timestamp → Judged
+unfoldable pub judged : ℕ → List Timestamp → ℕ → List Timestamp → VerdictAt
 judged ratio earlier place [] = record { verdict = Accepted; place = 0 }
 judged ratio earlier place (s ∷ l) =
     pick (not (valid s)) (record { verdict = BadEntry; place = place })
-    (pick (any (λ e. not (concurrent (clocksOf ratio) e s)) earlier) (record { verdict = NotConcurrent; place = place })
+    (pick (somePasses (λ e. not (concurrent (clocksOf ratio) e s)) earlier) (record { verdict = NotConcurrent; place = place })
     (judged ratio (earlier ++ (s ∷ [])) (suc place) l))
 
 -- a list whose first place is `place`: 35, then its entries
-unfoldable pub judgedList : ℕ → ℕ → List Timestamp → Judged
+unfoldable pub judgedList : ℕ → ℕ → List Timestamp → VerdictAt
 judgedList ratio place l = pick (not (validLength (length l))) (record { verdict = BadLength; place = place }) (judged ratio [] place l)
 
 abbrev pub related : Relation → Comparison

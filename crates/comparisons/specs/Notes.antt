@@ -8,7 +8,7 @@ use lib.Dec.{eqb, ltb}
 use lib.ListN.{length, replicate, set}
 use Rattle.sequences.specs.Choice.{pick}
 use Rattle.sequences.specs.Loops.{fold}
-use Rattle.sequences.specs.Members.{_∈_}
+use Rattle.sequences.specs.Members.{_isIn_}
 use Rattle.timestamps.specs.declared.GlobalTick.{GlobalTick}
 use Rattle.timestamps.specs.declared.LocalTick.{LocalTick}
 use Rattle.timestamps.specs.declared.Relation.{Relation}
@@ -59,12 +59,12 @@ pub record NotedIn (clocks : Clocks) (a : Gathering) (s : Timestamp) : Type 0 wh
   pub high : globalOf clocks s .0 ≤ a .span .highest .0
 
 -- all of them are, what is noted is one of them, so are the lowest and the highest, and these are not clearly apart
-pub record Noted (clocks : Clocks) (l : List Timestamp) (a : Gathering) : Type 0 where
+pub record NotedList (clocks : Clocks) (l : List Timestamp) (a : Gathering) : Type 0 where
   pub sized : length (a .notes) ≡ 16
-  pub each : (s : Timestamp) → s ∈ l → NotedIn clocks a s
-  pub held : (k : ℕ) → k < 8 → 0 < noteAt (a .notes) k → notedAt (a .notes) k ∈ l
-  pub lowest : a .span .lowest .0 < noLowest → (s : Timestamp) × (s ∈ l) × (globalOf clocks s .0 ≡ a .span .lowest .0)
-  pub highest : 0 < a .span .highest .0 → (s : Timestamp) × (s ∈ l) × (globalOf clocks s .0 ≡ a .span .highest .0)
+  pub each : (s : Timestamp) → s isIn l → NotedIn clocks a s
+  pub held : (k : ℕ) → k < 8 → 0 < noteAt (a .notes) k → notedAt (a .notes) k isIn l
+  pub lowest : a .span .lowest .0 < noLowest → (s : Timestamp) × (s isIn l) × (globalOf clocks s .0 ≡ a .span .lowest .0)
+  pub highest : 0 < a .span .highest .0 → (s : Timestamp) × (s isIn l) × (globalOf clocks s .0 ≡ a .span .highest .0)
   pub near : a .span .highest .0 ≤ a .span .lowest .0 + 1
   pub fits : a .span .highest .0 < noLowest
 

@@ -24,7 +24,7 @@ pub struct Comparison {
 fn refused_comparison(v: Verdict, place: u64) -> Comparison
     ensures { λ r. ⌜ r ≡ refusedComparison v place ⌝ }
 {
-    let number = open_calls::number_of(v);
+    let number = v.number();
     Comparison {
         number: number,
         place: place,
@@ -68,7 +68,7 @@ pub struct CompareStart {
 fn start_of(v: Verdict, place: u64) -> CompareStart
     ensures { λ r. ⌜ r ≡ compareStart v place ⌝ }
 {
-    let stop = open_calls::is_refusal(v);
+    let stop = v.is_refusal();
     let answer = refused_comparison(v, place);
     let lowest = GlobalTick(18446744073709551615);
     let highest = GlobalTick(0);
@@ -99,7 +99,7 @@ pub fn gather_step(a: Span, notes: &mut ListNotes, s: Timestamp, i: usize, ratio
     ensures { λ r. ⌜ gatheringOf r (now (notes .exit)) ≡ gatherStep (clocksOf ratio) (gatheringOf a (now (notes .entry))) s i ⌝ }
 {
     let v = a.verdict;
-    if open_calls::is_refusal(v) {
+    if v.is_refusal() {
         judged_as(a, v, a.place)
     } else if s.valid() {
         gather(a, notes, s, i, ratio)
@@ -240,7 +240,7 @@ pub fn after_first(a: Gathering, n: usize, m: usize) -> CompareStart
     let span = a.span;
     let v = span.verdict;
     let place = span.place;
-    if open_calls::is_refusal(v) {
+    if v.is_refusal() {
         start_of(v, place)
     } else if open_calls::is_length(m) {
         start_of(Verdict::Accepted, 0)
@@ -317,7 +317,7 @@ pub fn compare_done(a: Gathering, b: Gathering, n: usize) -> Comparison
     let span = a.span;
     let last = b.span;
     let v = last.verdict;
-    if open_calls::is_refusal(v) {
+    if v.is_refusal() {
         let place = place_after(n, last.place);
         refused_comparison(v, place)
     } else {

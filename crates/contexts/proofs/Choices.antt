@@ -7,8 +7,8 @@ use Prim.Native.Nat.{ℕ, zero, suc}
 use lib.ListN.{getD, length-map}
 use borrow.Author.Tests.{not-true}
 use Rattle.sequences.specs.Marks.{marked, padded, unmarked}
-use Rattle.sequences.specs.Members.{_∈_}
-use Rattle.sequences.specs.Select.{any, filter}
+use Rattle.sequences.specs.Members.{_isIn_}
+use Rattle.sequences.specs.Select.{somePasses, filter}
 use Rattle.sequences.proofs.Booleans.{and-both, and-left, and-right, false-of-not-true, never-both}
 use Rattle.sequences.proofs.Marks.{getD-padded, marked-and, marked-map, marked-order, marked-padded, unmarked-map, unmarked-order, unmarked-padded, unmarked-within, zip-maps, zip-padded, zip-test}
 use Rattle.sequences.proofs.Select.{any-append, any-in, any-of, filter-all, filter-nil}
@@ -57,28 +57,28 @@ unfolding takes
 every-are clocks waiting candidates = taken-are every clocks waiting candidates ∙ filter-all (λ w. true) (marked waiting candidates) (λ w m. refl)
 
 -- "no other candidate": with at least one stamp an occurrence is not before itself, so the others decide
-module _ (clocks : Clocks) (l m : List Occurrence) (w : Occurrence) {s : Timestamp} (some : s ∈ members (w .latest)) where
-  pub latest-others : takes latest clocks (l ++ w ∷ m) w ≡ not (any (λ c. isBefore clocks w c) (l ++ m))
-  unfolding takes any
+module _ (clocks : Clocks) (l m : List Occurrence) (w : Occurrence) {s : Timestamp} (some : s isIn members (w .latest)) where
+  pub latest-others : takes latest clocks (l ++ w ∷ m) w ≡ not (somePasses (λ c. isBefore clocks w c) (l ++ m))
+  unfolding takes somePasses
   latest-others =
-      let here : any (λ c. isBefore clocks w c) (w ∷ m) ≡ any (λ c. isBefore clocks w c) m = rw (not-before-itself clocks w some) in
+      let here : somePasses (λ c. isBefore clocks w c) (w ∷ m) ≡ somePasses (λ c. isBefore clocks w c) m = rw (not-before-itself clocks w some) in
       rw (any-append (λ c. isBefore clocks w c) l (w ∷ m), any-append (λ c. isBefore clocks w c) l m, here)
 
-  pub earliest-others : takes earliest clocks (l ++ w ∷ m) w ≡ not (any (λ c. isBefore clocks c w) (l ++ m))
-  unfolding takes any
+  pub earliest-others : takes earliest clocks (l ++ w ∷ m) w ≡ not (somePasses (λ c. isBefore clocks c w) (l ++ m))
+  unfolding takes somePasses
   earliest-others =
-      let here : any (λ c. isBefore clocks c w) (w ∷ m) ≡ any (λ c. isBefore clocks c w) m = rw (not-before-itself clocks w some) in
+      let here : somePasses (λ c. isBefore clocks c w) (w ∷ m) ≡ somePasses (λ c. isBefore clocks c w) m = rw (not-before-itself clocks w some) in
       rw (any-append (λ c. isBefore clocks c w) l (w ∷ m), any-append (λ c. isBefore clocks c w) l m, here)
 
 -- ---- where there is a candidate one is taken, if each has a stamp, as in every run
 abbrev pub Stamped : Occurrence → Type 0
-Stamped w = (s : Timestamp) × (s ∈ members (w .latest))
+Stamped w = (s : Timestamp) × (s isIn members (w .latest))
 
 -- a relation that is strict on occurrences with a stamp has a greatest element of each list of them
 module _ (R : Occurrence → Occurrence → Bool) (irreflexive : (w : Occurrence) → Stamped w → R w w ≡ false)
     (transitive : (a b c : Occurrence) → R a b ≡ true → R b c ≡ true → R a c ≡ true) where
   abbrev stamped : Occurrence → Bool
-  stamped w = any (λ s. true) (members (w .latest))
+  stamped w = somePasses (λ s. true) (members (w .latest))
 
   abbrev Strict : Occurrence → Occurrence → Bool
   Strict a b = R a b && stamped b
@@ -94,18 +94,18 @@ module _ (R : Occurrence → Occurrence → Bool) (irreflexive : (w : Occurrence
     transitive = λ a b c p q. and-both (R a c) (stamped c) (transitive a b c (and-left (R a b) (stamped b) p) (and-left (R b c) (stamped c) q)) (and-right (R b c) (stamped c) q);
   }
 
-  some-greatest : (l : List Occurrence) {w : Occurrence} → w ∈ l → ((v : Occurrence) → v ∈ l → Stamped v) → (v : Occurrence) × (v ∈ maxima R l)
+  some-greatest : (l : List Occurrence) {w : Occurrence} → w isIn l → ((v : Occurrence) → v isIn l → Stamped v) → (v : Occurrence) × (v isIn maxima R l)
   some-greatest l {w} m h = ⊎-elim (λ i. (w, same i)) (λ t. (t .0, same (t .1))) (maxima-reach Strict strict l w m)
     where
-      same : {v : Occurrence} → v ∈ maxima Strict l → v ∈ maxima R l
+      same : {v : Occurrence} → v isIn maxima Strict l → v isIn maxima R l
       same {v} i =
           let (j, none) = maxima-of Strict l v i in
           maxima-in R l v j (λ b k. false-of-not-true (R v b) (λ e.
           let (s, n) = h b k in
           never-both (and-both (R v b) (stamped b) e (any-in (λ s. true) (members (b .latest)) n refl)) (none b k)))
 
-pub some-taken : (t : Taken) (clocks : Clocks) (waiting : List Occurrence) (candidates : List Bool) {w : Occurrence} → w ∈ marked waiting candidates
-    → ((v : Occurrence) → v ∈ marked waiting candidates → Stamped v) → (v : Occurrence) × (v ∈ marked waiting (takenOf t clocks waiting candidates))
+pub some-taken : (t : Taken) (clocks : Clocks) (waiting : List Occurrence) (candidates : List Bool) {w : Occurrence} → w isIn marked waiting candidates
+    → ((v : Occurrence) → v isIn marked waiting candidates → Stamped v) → (v : Occurrence) × (v isIn marked waiting (takenOf t clocks waiting candidates))
 some-taken latest clocks waiting candidates m h =
     rw (latest-are clocks waiting candidates)
     (some-greatest (isBefore clocks) (λ w e. not-before-itself clocks w (e .1)) (before-carries clocks) (marked waiting candidates) m h)

@@ -11,7 +11,7 @@ use Rattle.sequences.proofs.Loops.{fold-none}
 use Rattle.sequences.proofs.Marks.{marked-end}
 use Rattle.occurrences.specs.declared.Occurrence.{Occurrence}
 use Rattle.occurrences.specs.Combination.{combinedOf}
-use Rattle.occurrences.specs.Occurrences.{blank}
+use Rattle.occurrences.specs.Occurrences.{noOccurrence}
 use Rattle.occurrences.specs.Packed.{Notes, Stands}
 use Rattle.waiting_lists.specs.declared.WaitingList.{WaitingList}
 use Rattle.waiting_lists.specs.Lists.{Waits, listOf, placeIn}
@@ -42,8 +42,8 @@ module _ (ticks globals : List ℕ) (w : List (List ℕ)) (m : List Bool) (o : L
       combines-yes place d at e f g t l x h p =
           let r = g t l x h p in
           record {
-            so-far = combinedOf (t .clocks) (r .so-far) (getD l i blank);
-            stands = f t (r .so-far) (getD l i blank) (r .stands) (read-at t w l h list is i place at waits);
+            so-far = combinedOf (t .clocks) (r .so-far) (getD l i noOccurrence);
+            stands = f t (r .so-far) (getD l i noOccurrence) (r .stands) (read-at t w l h list is i place at waits);
             same = combined-yes l m i (in-l t l h) in-m (combinedOf (t .clocks)) (r .so-far) _ e refl ∙ r .same;
           }
 

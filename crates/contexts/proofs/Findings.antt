@@ -7,7 +7,7 @@ use native.Mathlib.Omega.{arith}
 use lib.ListN.{length, length-map}
 use Rattle.sequences.specs.Loops.{fold}
 use Rattle.sequences.specs.Marks.{firstMark, marked}
-use Rattle.sequences.specs.Members.{_∈_}
+use Rattle.sequences.specs.Members.{_isIn_}
 use Rattle.sequences.proofs.Marks.{marked-none, marked-some}
 use Rattle.sequences.proofs.Members.{map-of, same-swap}
 use Rattle.timestamps.specs.Order.{Clocks}
@@ -59,10 +59,10 @@ none-marked waiting m few h = marked-none waiting m (omega arith)
 pub record MadeOf (clocks : Clocks) (those : List Occurrence) (o made : Occurrence) : Type 0 where
   pub first : Occurrence
   pub more : List Occurrence
-  pub within : (p : Occurrence) → p ∈ (first ∷ more) → p ∈ those
+  pub within : (p : Occurrence) → p isIn (first ∷ more) → p isIn those
   pub combined : made ≡ combinationOf clocks (o ∷ first ∷ more)
 
-pub made-parts : (x : Findings) (clocks : Clocks) (those : List Occurrence) (o : Occurrence) {made : Occurrence} → made ∈ madeOf x clocks those o → MadeOf clocks those o made
+pub made-parts : (x : Findings) (clocks : Clocks) (those : List Occurrence) (o : Occurrence) {made : Occurrence} → made isIn madeOf x clocks those o → MadeOf clocks those o made
 unfolding madeOf
 made-parts each clocks those o m =
     let (w, i, e) = map-of (λ w. combinedOf clocks w o) those m in

@@ -13,7 +13,7 @@ use lib.Seq.{getD-set-other, getD-set-same}
 use Rattle.sequences.specs.Choice.{pick}
 use Rattle.sequences.specs.Loops.{fold}
 use Rattle.sequences.specs.Marks.{marked, padded}
-use Rattle.sequences.specs.Select.{any}
+use Rattle.sequences.specs.Select.{somePasses}
 use Rattle.sequences.proofs.Arrays.{getD-zip, length-zip}
 use Rattle.sequences.proofs.Parts.{getD-map}
 use Rattle.sequences.proofs.Marks.{any-marked-no, any-marked-yes, fold-marked, padded-start}
@@ -21,7 +21,7 @@ use Rattle.sequences.proofs.Select.{any-none}
 use Rattle.timestamps.specs.Composite.{IsComposite, members}
 use Rattle.timestamps.specs.Order.{Clocks}
 use Rattle.occurrences.specs.declared.Occurrence.{Occurrence}
-use Rattle.occurrences.specs.Occurrences.{blank, isBefore}
+use Rattle.occurrences.specs.Occurrences.{noOccurrence, isBefore}
 use Rattle.occurrences.specs.Steps.{Decided, LowestOf}
 use Rattle.occurrences.proofs.Order.{not-before-itself}
 use Rattle.occurrences.proofs.Steps.{next-place}
@@ -114,47 +114,47 @@ lows-at globals w lows list n i place is p h l =
     subst (λ (m : ℕ). LowestOf globals (getD w m []) (getD lows i 0)) (sym q) (l i h)
 
 -- a candidate is taken where no candidate bars it
-takes-unbarred : (t : Taken) (clocks : Clocks) (candidates : List Occurrence) (w : Occurrence) → not (any (barsOf t clocks w) candidates) ≡ takes t clocks candidates w
+takes-unbarred : (t : Taken) (clocks : Clocks) (candidates : List Occurrence) (w : Occurrence) → not (somePasses (barsOf t clocks w) candidates) ≡ takes t clocks candidates w
 unfolding barsOf takes
 takes-unbarred latest clocks candidates w = refl
 takes-unbarred earliest clocks candidates w = refl
 takes-unbarred every clocks candidates w = rw (any-none (λ c. false) candidates (λ c m. refl))
 
 module _ (mark : Bool) (code : ℕ) (clocks : Clocks) (candidates : List Occurrence) (w : Occurrence) (on : not mark ≡ false) where
-  pub taken-unbarred : (r : Bool) → r ≡ any (barsOf (takesOf code) clocks w) candidates → not r ≡ (mark && takes (takesOf code) clocks candidates w)
+  pub taken-unbarred : (r : Bool) → r ≡ somePasses (barsOf (takesOf code) clocks w) candidates → not r ≡ (mark && takes (takesOf code) clocks candidates w)
   taken-unbarred r e = rw (not-false mark on, e) (takes-unbarred (takesOf code) clocks candidates w)
 
 -- ---- marks that a loop fills, for 16 places
 module _ (l : List Occurrence) (m : List Bool) (i : ℕ) (in-list : i < length l) (few : length l ≤ 16) where
   -- a test of each
-  pub tested-turn : (p : Occurrence → Bool) (r : List Bool) (v : Bool) → m ≡ padded 16 (take i (map p l)) → v ≡ p (getD l i blank) → r ≡ pick v (set m i true) m
+  pub tested-turn : (p : Occurrence → Bool) (r : List Bool) (v : Bool) → m ≡ padded 16 (take i (map p l)) → v ≡ p (getD l i noOccurrence) → r ≡ pick v (set m i true) m
       → r ≡ padded 16 (take (i + 1) (map p l))
-  tested-turn p r v e f g = marks-turn (map p l) m r i v (omega (arith, length-map l p)) (omega (arith, length-map l p)) e (f ∙ sym (getD-map p l i blank false in-list)) g
+  tested-turn p r v e f g = marks-turn (map p l) m r i v (omega (arith, length-map l p)) (omega (arith, length-map l p)) e (f ∙ sym (getD-map p l i noOccurrence false in-list)) g
 
   -- a test of each with its mark
   pub zipped-turn : (f : Occurrence → Bool → Bool) (marks r : List Bool) (mark v : Bool) → length marks ≡ 16 → m ≡ padded 16 (take i (zipWith f l marks))
-      → mark ≡ getD marks i false → v ≡ f (getD l i blank) mark → r ≡ pick v (set m i true) m → r ≡ padded 16 (take (i + 1) (zipWith f l marks))
+      → mark ≡ getD marks i false → v ≡ f (getD l i noOccurrence) mark → r ≡ pick v (set m i true) m → r ≡ padded 16 (take (i + 1) (zipWith f l marks))
   zipped-turn f marks r mark v h e is g t =
       let k : length (zipWith f l marks) ≡ length l = length-zip f l marks (omega arith) in
-      marks-turn (zipWith f l marks) m r i v (omega arith) (omega arith) e (g ∙ ap (f (getD l i blank)) is ∙ sym (getD-zip f l marks i blank false false in-list (omega arith))) t
+      marks-turn (zipWith f l marks) m r i v (omega arith) (omega arith) e (g ∙ ap (f (getD l i noOccurrence)) is ∙ sym (getD-zip f l marks i noOccurrence false false in-list (omega arith))) t
 
 -- ---- a loop over the places of a list
 module _ (l : List Occurrence) (m : List Bool) (i : ℕ) (in-l : i < length l) (in-m : i < length m) where
-  module _ (p : Occurrence → Bool) (r : Bool) (told : (getD m i false && p (getD l i blank)) ≡ r) where
-    pub found-here : r ≡ true → any p (marked (drop i l) (drop i m)) ≡ true
-    found-here e = any-marked-yes l m i blank in-l in-m p (told ∙ e)
+  module _ (p : Occurrence → Bool) (r : Bool) (told : (getD m i false && p (getD l i noOccurrence)) ≡ r) where
+    pub found-here : r ≡ true → somePasses p (marked (drop i l) (drop i m)) ≡ true
+    found-here e = any-marked-yes l m i noOccurrence in-l in-m p (told ∙ e)
 
-    pub not-here : r ≡ false → any p (marked (drop i l) (drop i m)) ≡ any p (marked (drop (i + 1) l) (drop (i + 1) m))
-    not-here e = any-marked-no l m i blank in-l in-m p (told ∙ e)
+    pub not-here : r ≡ false → somePasses p (marked (drop i l) (drop i m)) ≡ somePasses p (marked (drop (i + 1) l) (drop (i + 1) m))
+    not-here e = any-marked-no l m i noOccurrence in-l in-m p (told ∙ e)
 
   module _ {S : Type 0} (f : S → Occurrence → S) (s : S) where
-    pub combined-yes : (r : S) → getD m i false ≡ true → r ≡ f s (getD l i blank)
+    pub combined-yes : (r : S) → getD m i false ≡ true → r ≡ f s (getD l i noOccurrence)
         → fold f (marked (drop (i + 1) l) (drop (i + 1) m)) r ≡ fold f (marked (drop i l) (drop i m)) s
-    combined-yes r y e = ap (fold f (marked (drop (i + 1) l) (drop (i + 1) m))) (rw y e) ∙ fold-marked l m i blank in-l in-m f s
+    combined-yes r y e = ap (fold f (marked (drop (i + 1) l) (drop (i + 1) m))) (rw y e) ∙ fold-marked l m i noOccurrence in-l in-m f s
 
     pub combined-no : getD m i false ≡ false
         → fold f (marked (drop (i + 1) l) (drop (i + 1) m)) s ≡ fold f (marked (drop i l) (drop i m)) s
-    combined-no n = ap (fold f (marked (drop (i + 1) l) (drop (i + 1) m))) (rw n) ∙ fold-marked l m i blank in-l in-m f s
+    combined-no n = ap (fold f (marked (drop (i + 1) l) (drop (i + 1) m))) (rw n) ∙ fold-marked l m i noOccurrence in-l in-m f s
 
 -- ---- one candidate against itself: with a stamp it does not keep itself from being taken
 pub bars-itself : (t : Taken) (clocks : Clocks) (w : Occurrence) → IsComposite clocks (members (w .latest)) → barsOf t clocks w w ≡ false
@@ -164,10 +164,10 @@ bars-itself earliest clocks w c = not-before-itself clocks w (c .some .1)
 bars-itself every clocks w c = refl
 
 -- so the others decide
-pub others-tell : (p : Occurrence → Bool) (l : List Occurrence) (i j : ℕ) (mark is r : Bool) → p (getD l i blank) ≡ false → is ≡ (not (eqb i j) && mark) → r ≡ (is && p (getD l j blank))
-    → (mark && p (getD l j blank)) ≡ r
+pub others-tell : (p : Occurrence → Bool) (l : List Occurrence) (i j : ℕ) (mark is r : Bool) → p (getD l i noOccurrence) ≡ false → is ≡ (not (eqb i j) && mark) → r ≡ (is && p (getD l j noOccurrence))
+    → (mark && p (getD l j noOccurrence)) ≡ r
 others-tell p l i j mark is r own e f = elim (ℕ-discrete i j) [
-  | yes q ↦ (let z : p (getD l j blank) ≡ false = ap (λ k. p (getD l k blank)) (sym q) ∙ own in
+  | yes q ↦ (let z : p (getD l j noOccurrence) ≡ false = ap (λ k. p (getD l k noOccurrence)) (sym q) ∙ own in
       let y : is ≡ false = e ∙ rw (eq-eqb i j q) in rw (z, and-false mark) (sym (rw (y) at f)))
   | no n ↦ (let y : is ≡ mark = e ∙ rw (ne-eqb i j n) in rw (← y) (sym f))
 ]

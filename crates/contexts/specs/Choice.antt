@@ -3,7 +3,7 @@ use mathlib.Core.Bool.{Bool, true, not, _&&_}
 use mathlib.Core.List.{List, map, zipWith}
 use Prim.Native.Nat.{ℕ}
 use Rattle.sequences.specs.Marks.{marked, padded}
-use Rattle.sequences.specs.Select.{any}
+use Rattle.sequences.specs.Select.{somePasses}
 use Rattle.timestamps.specs.Order.{Clocks}
 use Rattle.occurrences.specs.declared.Occurrence.{Occurrence}
 use Rattle.occurrences.specs.Occurrences.{isBefore}
@@ -20,8 +20,8 @@ andCandidates waiting = padded 16 (map (λ w. true) waiting)
 -- a candidate is taken: it is before no other candidate; no other candidate is before it; always.
 -- "Other" needs no word: with at least one stamp an occurrence is not before itself (proofs/Choices.antt, latest-others, earliest-others)
 unfoldable pub takes : Taken → Clocks → List Occurrence → Occurrence → Bool
-takes latest clocks candidates w = not (any (λ c. isBefore clocks w c) candidates)
-takes earliest clocks candidates w = not (any (λ c. isBefore clocks c w) candidates)
+takes latest clocks candidates w = not (somePasses (λ c. isBefore clocks w c) candidates)
+takes earliest clocks candidates w = not (somePasses (λ c. isBefore clocks c w) candidates)
 takes every clocks candidates w = true
 
 -- the marks of those taken

@@ -9,10 +9,10 @@ ghost use lib.Dec.{eqb};
 ghost use lib.ListN.{getD, length};
 ghost use Rattle.sequences.specs.Loops.{fold};
 ghost use Rattle.sequences.specs.Marks.{marked};
-ghost use Rattle.sequences.specs.Select.{any};
+ghost use Rattle.sequences.specs.Select.{somePasses};
 ghost use Rattle.occurrences.specs.declared.Occurrence.{Occurrence};
 ghost use Rattle.occurrences.specs.Combination.{combinedOf};
-ghost use Rattle.occurrences.specs.Occurrences.{blank, isBefore};
+ghost use Rattle.occurrences.specs.Occurrences.{noOccurrence, isBefore};
 ghost use Rattle.occurrences.specs.Packed.{Notes, Stands, Within};
 ghost use Rattle.occurrences.specs.Steps.{Decided, LowestOf};
 ghost use Rattle.waiting_lists.specs.Lists.{Arrives, Known, Waits, listOf};
@@ -269,7 +269,7 @@ fn barred(
     requires { ⌜ (i < listOf (now list) .len) × Known (now ticks) (now globals) (now list) ⌝ }
     ensures { λ r. ⌜ ((t : Notes (now (ticks .entry)) (now (globals .entry))) (l : List Occurrence)
         → Waits t (now (list .entry)) l → Lows (now (globals .entry)) (now (list .entry)) (length l) (now (lows .entry))
-        → r ≡ any (barsOf (takesOf rule) (t .clocks) (getD l i blank)) (marked l (marksOf candidates))) ⌝ }
+        → r ≡ somePasses (barsOf (takesOf rule) (t .clocks) (getD l i noOccurrence)) (marked l (marksOf candidates))) ⌝ }
 {
     let waiting = waiting_lists::list_of(list);
     let n = waiting.len;
@@ -309,7 +309,7 @@ fn is_taken(
     requires { ⌜ (i < listOf (now list) .len) × Known (now ticks) (now globals) (now list) ⌝ }
     ensures { λ r. ⌜ ((t : Notes (now (ticks .entry)) (now (globals .entry))) (l : List Occurrence)
         → Waits t (now (list .entry)) l → Lows (now (globals .entry)) (now (list .entry)) (length l) (now (lows .entry))
-        → r ≡ (is && takes (takesOf rule) (t .clocks) (marked l (marksOf candidates)) (getD l i blank))) ⌝ }
+        → r ≡ (is && takes (takesOf rule) (t .clocks) (marked l (marksOf candidates)) (getD l i noOccurrence))) ⌝ }
 {
     if !is {
         false

@@ -12,7 +12,7 @@ use lib.Bits.{bitAnd}
 use lib.Count.{trailingZeros}
 use lib.ListN.{length, length-append}
 use lib.Pow.{shr-lt, shr-shr}
-use Rattle.sequences.specs.Range.{range}
+use Rattle.sequences.specs.Range.{numbersFrom}
 use Rattle.sequences.specs.Select.{filter}
 use Rattle.sequences.proofs.Booleans.{either-way}
 use Rattle.sequences.proofs.Range.{range-none, range-next, range-split}
@@ -36,7 +36,7 @@ bits-even d first n e = rw (ne-eqb (n % 2) 1 (λ o. omega arith))
 
 -- a test that goes by the bits of a word, from the number base on
 module _ (p : ℕ → Bool) (word base : ℕ) (agree : (j : ℕ) → base ≤ j → j < base + 64 → p j ≡ isSet word (j - base)) where
-  filter-bits : (d k : ℕ) → base ≤ k → k + d ≤ base + 64 → filter p (range k d) ≡ bitsFrom d k (word / 2 ^ (k - base))
+  filter-bits : (d k : ℕ) → base ≤ k → k + d ≤ base + 64 → filter p (numbersFrom k d) ≡ bitsFrom d k (word / 2 ^ (k - base))
   unfolding bitsFrom isSet
   filter-bits zero k h l = rw (range-none k, filter-nil p)
   filter-bits (suc d) k h l =
@@ -45,16 +45,16 @@ module _ (p : ℕ → Bool) (word base : ℕ) (agree : (j : ℕ) → base ≤ j 
       let rest = filter-bits d (k + 1) (omega arith) (omega arith) in
       let same = agree k h (omega arith) in
       ⊎-elim
-      (λ y. rw (range-next k d, filter-yes p k (range (k + 1) d) y, sym same ∙ y, half, rest))
-      (λ n. rw (range-next k d, filter-no p k (range (k + 1) d) n, sym same ∙ n, half, rest))
+      (λ y. rw (range-next k d, filter-yes p k (numbersFrom (k + 1) d) y, sym same ∙ y, half, rest))
+      (λ n. rw (range-next k d, filter-no p k (numbersFrom (k + 1) d) n, sym same ∙ n, half, rest))
       (either-way (p k))
 
 pub elements-bits : (s : EventSet) → elements s ≡ bitsFrom 64 0 (s .low) ++ bitsFrom 64 64 (s .high)
 unfolding elements
 elements-bits s =
-    let low : filter (has s) (range 0 64) ≡ bitsFrom 64 0 (s .low / 1) = filter-bits (has s) (s .low) 0 (λ j h l. rw sub-zero (has-low s j l)) 64 0 (omega arith) (omega arith) in
-    let high : filter (has s) (range 64 64) ≡ bitsFrom 64 64 (s .high / 1) = filter-bits (has s) (s .high) 64 (has-high s) 64 64 (omega arith) (omega arith) in
-    rw (range-split 0 64 64, filter-append (has s) (range 0 64) (range 64 64), low, high, div-one (s .low), div-one (s .high))
+    let low : filter (has s) (numbersFrom 0 64) ≡ bitsFrom 64 0 (s .low / 1) = filter-bits (has s) (s .low) 0 (λ j h l. rw sub-zero (has-low s j l)) 64 0 (omega arith) (omega arith) in
+    let high : filter (has s) (numbersFrom 64 64) ≡ bitsFrom 64 64 (s .high / 1) = filter-bits (has s) (s .high) 64 (has-high s) 64 64 (omega arith) (omega arith) in
+    rw (range-split 0 64 64, filter-append (has s) (numbersFrom 0 64) (numbersFrom 64 64), low, high, div-one (s .low), div-one (s .high))
 
 -- ---- a word without its lowest bit
 bits-twice : (d first n : ℕ) → bitsFrom (suc d) first (n * 2) ≡ bitsFrom d (first + 1) n

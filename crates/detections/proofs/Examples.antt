@@ -3,8 +3,8 @@ use mathlib.Core.Path.{_≡_, refl}
 use mathlib.Core.List.{List, [], _∷_}
 use Prim.Native.Nat.{ℕ}
 use lib.ListN.{length}
-use Rattle.sequences.specs.Range.{range}
-use Rattle.sequences.specs.Select.{filter, any}
+use Rattle.sequences.specs.Range.{numbersFrom}
+use Rattle.sequences.specs.Select.{filter, somePasses}
 use Rattle.timestamps.specs.Composite.{members, tickOf, compositeOf}
 use Rattle.timestamps.specs.Examples.{stamped}
 use Rattle.event_sets.specs.declared.EventSet.{EventSet}
@@ -25,7 +25,7 @@ abbrev pub D1 : Finding
 D1 = record { node = 0; stamps = record { logger = 2; tick = record { 0 = 110 } } ∷ []; events = 1 ∷ 2 ∷ [] }
 
 D1-finding : findingOf loggers 0 (compositeOf (stamped 1 110 ∷ [])) eventsOneTwo ≡ D1
-unfolding findingOf members compositeOf tickOf any filter range elements has isSet
+unfolding findingOf members compositeOf tickOf somePasses filter numbersFrom elements has isSet
 D1-finding = refl
 
 -- 20 bytes

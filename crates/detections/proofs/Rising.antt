@@ -4,7 +4,7 @@ use mathlib.Core.List.{List, [], _∷_, map, List·Memᴰ·head, List·Memᴰ·t
 use mathlib.Core.Bool.{true}
 use Prim.Native.Nat.{ℕ, _<_}
 use lib.ListN.{getD}
-use Rattle.sequences.specs.Members.{_∈_}
+use Rattle.sequences.specs.Members.{_isIn_}
 use Rattle.sequences.specs.Range.{Rising}
 use Rattle.sequences.specs.Select.{filter}
 use Rattle.sequences.proofs.Members.{map-of}
@@ -18,7 +18,7 @@ use Rattle.detections.specs.Views.{written, findingOf}
 
 -- ---- through functions that rise together on its members
 rising-map : {A B : Type 0} (f : B → ℕ) (g : A → B) (p : ℕ → A) (l : List ℕ) → Rising l
-    → ((i j : ℕ) → i ∈ l → j ∈ l → i < j → f (g (p i)) < f (g (p j))) → Rising (map f (map g (map p l)))
+    → ((i j : ℕ) → i isIn l → j isIn l → i < j → f (g (p i)) < f (g (p j))) → Rising (map f (map g (map p l)))
 unfolding Rising
 rising-map f g p [] r h = tt
 rising-map f g p (a ∷ l) r h = (

@@ -7,7 +7,7 @@ use native.Mathlib.Nat.{add-zero, div-one, zero-add}
 use native.Mathlib.Omega.{arith}
 use lib.ListN.{length, getD, length-map}
 use lib.Pow.{shr-shr}
-use Rattle.sequences.specs.Range.{range}
+use Rattle.sequences.specs.Range.{numbersFrom}
 use Rattle.sequences.specs.Select.{filter}
 use Rattle.sequences.proofs.Booleans.{either-way}
 use Rattle.sequences.proofs.Range.{range-turn, range-end, length-range}
@@ -28,23 +28,23 @@ use Rattle.detections.proofs.Sizes.{stamp-no}
 -- at most one for each place
 pub members-most : (c : CompositeTimestamp) → length (members c) ≤ 8
 unfolding members
-members-most c = omega (arith, length-map (filter (presentAt c) (range 0 8)) (stampAt c), filter-length (presentAt c) (range 0 8), length-range 0 8)
+members-most c = omega (arith, length-map (filter (presentAt c) (numbersFrom 0 8)) (stampAt c), filter-length (presentAt c) (numbersFrom 0 8), length-range 0 8)
 
 module _ (w : List ℕ) where
   -- ---- how many there are
   unfoldable pub countFrom : ℕ → ℕ
-  countFrom k = length (filter (presentAt (latestOf w)) (range k (8 - k)))
+  countFrom k = length (filter (presentAt (latestOf w)) (numbersFrom k (8 - k)))
 
   pub count-start : countFrom 0 ≡ length (members (latestOf w))
   unfolding countFrom members
-  count-start = sym (length-map (filter (presentAt (latestOf w)) (range 0 8)) (stampAt (latestOf w)))
+  count-start = sym (length-map (filter (presentAt (latestOf w)) (numbersFrom 0 8)) (stampAt (latestOf w)))
 
   pub count-turn : (k v : ℕ) → k < 8 → v ≡ wordAt w k → countFrom k ≡ oneIf v + countFrom (k + 1)
   unfolding countFrom
   count-turn k v h e =
       ⊎-elim
-      (λ y. rw (e, range-turn 8 k h, filter-yes (presentAt (latestOf w)) k (range (k + 1) (8 - (k + 1))) y, sym (present-at w k) ∙ y) (omega arith))
-      (λ n. rw (e, range-turn 8 k h, filter-no (presentAt (latestOf w)) k (range (k + 1) (8 - (k + 1))) n, sym (present-at w k) ∙ n) (omega arith))
+      (λ y. rw (e, range-turn 8 k h, filter-yes (presentAt (latestOf w)) k (numbersFrom (k + 1) (8 - (k + 1))) y, sym (present-at w k) ∙ y) (omega arith))
+      (λ n. rw (e, range-turn 8 k h, filter-no (presentAt (latestOf w)) k (numbersFrom (k + 1) (8 - (k + 1))) n, sym (present-at w k) ∙ n) (omega arith))
       (either-way (presentAt (latestOf w) k))
 
   pub count-end : (k : ℕ) → 8 ≤ k → countFrom k ≡ 0
@@ -54,7 +54,7 @@ module _ (w : List ℕ) where
 -- ---- their bytes
 module _ (w loggers : List ℕ) where
   unfoldable stampsFrom : ℕ → List ℕ
-  stampsFrom k = each stamp (map (written loggers) (map (stampAt (latestOf w)) (filter (presentAt (latestOf w)) (range k (8 - k)))))
+  stampsFrom k = each stamp (map (written loggers) (map (stampAt (latestOf w)) (filter (presentAt (latestOf w)) (numbersFrom k (8 - k)))))
 
   stamps-start : stampsFrom 0 ≡ each stamp (map (written loggers) (members (latestOf w)))
   unfolding stampsFrom members
@@ -64,8 +64,8 @@ module _ (w loggers : List ℕ) where
   unfolding stampsFrom stampBytes each
   stamps-turn k v h e =
       ⊎-elim
-      (λ y. rw (e, range-turn 8 k h, filter-yes (presentAt (latestOf w)) k (range (k + 1) (8 - (k + 1))) y, sym (present-at w k) ∙ y, tick-at w k))
-      (λ n. rw (e, range-turn 8 k h, filter-no (presentAt (latestOf w)) k (range (k + 1) (8 - (k + 1))) n, sym (present-at w k) ∙ n))
+      (λ y. rw (e, range-turn 8 k h, filter-yes (presentAt (latestOf w)) k (numbersFrom (k + 1) (8 - (k + 1))) y, sym (present-at w k) ∙ y, tick-at w k))
+      (λ n. rw (e, range-turn 8 k h, filter-no (presentAt (latestOf w)) k (numbersFrom (k + 1) (8 - (k + 1))) n, sym (present-at w k) ∙ n))
       (either-way (presentAt (latestOf w) k))
 
   stamps-end : (k : ℕ) → 8 ≤ k → stampsFrom k ≡ []

@@ -2,7 +2,7 @@
 use Prim.Native.Nat.{ℕ, _^_, _<_}
 use mathlib.Core.List.{List, [], _∷_, _++_}
 use lib.ListN.{length}
-use Rattle.sequences.specs.Members.{_∈_}
+use Rattle.sequences.specs.Members.{_isIn_}
 use Rattle.forms.specs.Bytes.{bigEndian}
 use Rattle.forms.specs.Forms.{Form, number, pair, via, sectionBytes}
 use Rattle.detections.specs.declared.Stamp.{Stamp}
@@ -42,6 +42,6 @@ pub record StampFits (s : Stamp) : Type 0 where
 pub record FindingFits (f : Finding) : Type 0 where
   pub node : f .node < 65536
   pub stamp-count : length (f .stamps) < 65536
-  pub stamps : (s : Stamp) → s ∈ f .stamps → StampFits s
+  pub stamps : (s : Stamp) → s isIn f .stamps → StampFits s
   pub event-count : length (f .events) < 65536
-  pub events : (n : ℕ) → n ∈ f .events → n < 65536
+  pub events : (n : ℕ) → n isIn f .events → n < 65536

@@ -31,15 +31,17 @@ pub struct Emit {
     pub at: usize,
 }
 
-// Document 01's number of a limit, 0 for none.
-pub fn number_of(l: Limit) -> u64
-    ensures { λ r. ⌜ r ≡ numberOf l ⌝ }
-{
-    match l {
-        Limit::None => 0,
-        Limit::ListFull => 31,
-        Limit::NodeFull => 32,
-        Limit::OutputFull => 33,
+impl Limit {
+    // Document 01's number of the limit, 0 for none.
+    pub fn number(self) -> u64
+        ensures { λ r. ⌜ r ≡ numberOf self ⌝ }
+    {
+        match self {
+            Limit::None => 0,
+            Limit::ListFull => 31,
+            Limit::NodeFull => 32,
+            Limit::OutputFull => 33,
+        }
     }
 }
 
@@ -54,7 +56,7 @@ fn stopped(e: Emit, limit: Limit) -> Emit
     ensures { λ r. ⌜ r ≡ record { limit = numberOf limit; made = e .made; findings = e .findings; at = e .at } ⌝ }
 {
     Emit {
-        limit: number_of(limit),
+        limit: limit.number(),
         made: e.made,
         findings: e.findings,
         at: e.at,
@@ -101,7 +103,7 @@ pub fn emit_one(
     let next = detections::write(out, at, place, o, ticks, loggers);
     made[n] = *o;
     Emit {
-        limit: number_of(Limit::None),
+        limit: Limit::None.number(),
         made: n + 1,
         findings: findings + 1,
         at: next,

@@ -8,7 +8,7 @@ use native.Mathlib.Omega.{arith}
 use lib.Count.{ones, ones-step, ones-le}
 use lib.ListN.{length, length-append}
 use lib.Pow.{shr-shr, shr-lt}
-use Rattle.sequences.specs.Range.{range}
+use Rattle.sequences.specs.Range.{numbersFrom}
 use Rattle.sequences.specs.Select.{filter}
 use Rattle.sequences.proofs.Booleans.{either-way}
 use Rattle.sequences.proofs.Range.{range-none, range-next, range-split}
@@ -21,27 +21,27 @@ use Rattle.event_sets.proofs.Words.{bit-one, bit-zero}
 -- a test that goes by the bits of a word, from the number base on
 module _ (p : ℕ → Bool) (word base : ℕ) (agree : (j : ℕ) → base ≤ j → j < base + 64 → p j ≡ isSet word (j - base)) where
   pub length-ones : (d k : ℕ) → base ≤ k → k + d ≤ base + 64 → word / 2 ^ (k - base) < 2 ^ d
-      → length (filter p (range k d)) ≡ ones (word / 2 ^ (k - base))
+      → length (filter p (numbersFrom k d)) ≡ ones (word / 2 ^ (k - base))
   length-ones zero k h l f = rw (range-none k, filter-nil p) (omega (arith, ones-le 0 (word / 2 ^ (k - base)) f))
   length-ones (suc d) k h l f =
       let a : k + 1 - base ≡ k - base + 1 = omega arith in
       let half : word / 2 ^ (k - base) / 2 ≡ word / 2 ^ (k + 1 - base) = shr-shr word (k - base) 1 ∙ ap (λ n. word / 2 ^ n) (sym a) in
       let b : suc d ≡ d + 1 = omega arith in
       let fits : word / 2 ^ (k + 1 - base) < 2 ^ d = rw half at (shr-lt d 1 (rw b at f)) in
-      let rest : length (filter p (range (k + 1) d)) ≡ ones (word / 2 ^ (k + 1 - base)) = length-ones d (k + 1) (omega arith) (omega arith) fits in
+      let rest : length (filter p (numbersFrom (k + 1) d)) ≡ ones (word / 2 ^ (k + 1 - base)) = length-ones d (k + 1) (omega arith) (omega arith) fits in
       let all : ones (word / 2 ^ (k - base)) ≡ word / 2 ^ (k - base) % 2 + ones (word / 2 ^ (k + 1 - base)) =
       ones-step (word / 2 ^ (k - base)) ∙ ap (λ n. word / 2 ^ (k - base) % 2 + ones n) half in
       let same = agree k h (omega arith) in
       ⊎-elim
-      (λ y. rw (range-next k d, filter-yes p k (range (k + 1) d) y) (omega (arith, all, rest, bit-one word (k - base) (sym same ∙ y))))
-      (λ n. rw (range-next k d, filter-no p k (range (k + 1) d) n) (omega (arith, all, rest, bit-zero word (k - base) (sym same ∙ n))))
+      (λ y. rw (range-next k d, filter-yes p k (numbersFrom (k + 1) d) y) (omega (arith, all, rest, bit-one word (k - base) (sym same ∙ y))))
+      (λ n. rw (range-next k d, filter-no p k (numbersFrom (k + 1) d) n) (omega (arith, all, rest, bit-zero word (k - base) (sym same ∙ n))))
       (either-way (p k))
 
 pub size-ones : (s : EventSet) → WordsFit s → ones (s .low) + ones (s .high) ≡ sizeOf s
 unfolding sizeOf elements
 size-ones s f =
-    let low : length (filter (has s) (range 0 64)) ≡ ones (s .low / 1) =
+    let low : length (filter (has s) (numbersFrom 0 64)) ≡ ones (s .low / 1) =
     length-ones (has s) (s .low) 0 (λ j h l. rw sub-zero (has-low s j l)) 64 0 (omega arith) (omega arith) (rw div-one (f .low)) in
-    let high : length (filter (has s) (range 64 64)) ≡ ones (s .high / 1) =
+    let high : length (filter (has s) (numbersFrom 64 64)) ≡ ones (s .high / 1) =
     length-ones (has s) (s .high) 64 (has-high s) 64 64 (omega arith) (omega arith) (rw div-one (f .high)) in
-    rw (range-split 0 64 64, filter-append (has s) (range 0 64) (range 64 64), length-append, low, high, div-one (s .low), div-one (s .high))
+    rw (range-split 0 64 64, filter-append (has s) (numbersFrom 0 64) (numbersFrom 64 64), length-append, low, high, div-one (s .low), div-one (s .high))

@@ -10,8 +10,8 @@ use borrow.Author.Tests.{lt-ltb, le-ltb, eq-eqb, ne-eqb, eqb-true}
 use lib.Bits.{bitOr, or-comm, or-lt, or-self, or-zero-r}
 use lib.Dec.{eqb, lit<}
 use lib.Pow.{pow-lt, pow-pos}
-use Rattle.sequences.specs.Members.{_∈_, SameMembers}
-use Rattle.sequences.specs.Range.{range, Rising}
+use Rattle.sequences.specs.Members.{_isIn_, SameMembers}
+use Rattle.sequences.specs.Range.{numbersFrom, Rising}
 use Rattle.sequences.proofs.Booleans.{never-both, or-cases, or-left, or-right, same-test}
 use Rattle.sequences.proofs.Members.{length-pos}
 use Rattle.sequences.proofs.Range.{range-in, range-rising, length-range, filter-one}
@@ -130,14 +130,14 @@ union-none a = ap₂ words (or-zero-r (a .low)) (or-zero-r (a .high))
 -- ---- the elements
 
 -- a number is an element exactly where the set has it
-pub elements-has : (s : EventSet) (j : ℕ) → (j ∈ elements s) ↔ (has s j ≡ true)
+pub elements-has : (s : EventSet) (j : ℕ) → (j isIn elements s) ↔ (has s j ≡ true)
 unfolding elements
 elements-has s j = (
   (λ m. filter-of (has s) _ m .1),
   (λ e. filter-in (has s) _ (range-in 0 _ j (omega arith) (has-below s j e)) e),
 )
 
-pub elements-below : (s : EventSet) (j : ℕ) → j ∈ elements s → j < 128
+pub elements-below : (s : EventSet) (j : ℕ) → j isIn elements s → j < 128
 elements-below s j m = has-below s j (elements-has s j .0 m)
 
 pub elements-rising : (s : EventSet) → Rising (elements s)
@@ -155,7 +155,7 @@ elements-one i h =
     (λ j m. has-marked noEvents i j h ∙ ap (λ b. eqb j i || b) (has-none j) ∙ or-false (eqb j i))
     ∙ filter-one i _ 0 (omega arith) h
 
-pub elements-marked : (s : EventSet) (i j : ℕ) → i < 128 → (j ∈ elements (markedWith s i)) ↔ ((j ≡ i) ⊎ (j ∈ elements s))
+pub elements-marked : (s : EventSet) (i j : ℕ) → i < 128 → (j isIn elements (markedWith s i)) ↔ ((j ≡ i) ⊎ (j isIn elements s))
 elements-marked s i j h = (
   (λ m. ⊎-elim
       (λ e. inl (eqb-true j i e))
@@ -168,7 +168,7 @@ elements-marked s i j h = (
       c)),
 )
 
-pub elements-union : (a b : EventSet) (j : ℕ) → (j ∈ elements (unionOf a b)) ↔ ((j ∈ elements a) ⊎ (j ∈ elements b))
+pub elements-union : (a b : EventSet) (j : ℕ) → (j isIn elements (unionOf a b)) ↔ ((j isIn elements a) ⊎ (j isIn elements b))
 elements-union a b j = (
   (λ m. ⊎-elim
       (λ e. inl (elements-has a j .1 e))
@@ -185,7 +185,7 @@ elements-union a b j = (
 
 pub size-most : (s : EventSet) → sizeOf s ≤ 128
 unfolding sizeOf elements
-size-most s = omega (arith, filter-length (has s) (range 0 128), length-range 0 128)
+size-most s = omega (arith, filter-length (has s) (numbersFrom 0 128), length-range 0 128)
 
 -- a set that has a number is not empty
 pub size-pos : (s : EventSet) (j : ℕ) → has s j ≡ true → 0 < sizeOf s

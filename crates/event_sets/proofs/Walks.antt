@@ -12,8 +12,8 @@ use lib.Count.{trailingZeros, under}
 use lib.Dec.{leb, ltb}
 use lib.Pow.{shr-shr}
 use Rattle.sequences.specs.Choice.{pick}
-use Rattle.sequences.specs.Members.{_∈_}
-use Rattle.sequences.specs.Range.{range, Rising}
+use Rattle.sequences.specs.Members.{_isIn_}
+use Rattle.sequences.specs.Range.{numbersFrom, Rising}
 use Rattle.sequences.specs.Select.{filter}
 use Rattle.sequences.proofs.Booleans.{either-way, same-test}
 use Rattle.sequences.proofs.Range.{range-none, range-next, range-split, range-of}
@@ -25,24 +25,24 @@ use Rattle.event_sets.proofs.Words.{bit-one, bit-zero}
 
 -- ---- the first of a list
 
-first-least : (d : ℕ) (l : List ℕ) {j : ℕ} → Rising l → j ∈ l → firstOr d l ≤ j
+first-least : (d : ℕ) (l : List ℕ) {j : ℕ} → Rising l → j isIn l → firstOr d l ≤ j
 unfolding firstOr Rising
 first-least d [] r m = absurd (List·Memᴰ·not-nil m)
 first-least d (a ∷ l) r m = ⊎-elim (λ e. omega (arith, e)) (λ n. omega (arith, r .0 _ n)) (List·Memᴰ·cases-cons m)
 
 -- what holds of every element, and of the number for none, holds of the first
-first-holds : (P : ℕ → Type 0) (d : ℕ) (l : List ℕ) → P d → ((j : ℕ) → j ∈ l → P j) → P (firstOr d l)
+first-holds : (P : ℕ → Type 0) (d : ℕ) (l : List ℕ) → P d → ((j : ℕ) → j isIn l → P j) → P (firstOr d l)
 unfolding firstOr
 first-holds P d [] e h = e
 first-holds P d (a ∷ l) e h = h a (List·Memᴰ·head refl)
 
-first-none : (d : ℕ) (l : List ℕ) → ((j : ℕ) → j ∈ l → j < d) → d ≤ firstOr d l → l ≡ []
+first-none : (d : ℕ) (l : List ℕ) → ((j : ℕ) → j isIn l → j < d) → d ≤ firstOr d l → l ≡ []
 unfolding firstOr
 first-none d [] h e = refl
 first-none d (a ∷ l) h e = absurd (omega (arith, h a (List·Memᴰ·head refl)))
 
 -- the first of two lists, where those of the first list are below e
-first-append : (d e : ℕ) (l m : List ℕ) → ((j : ℕ) → j ∈ l → j < e) → firstOr d (l ++ m) ≡ pick (ltb (firstOr e l) e) (firstOr e l) (firstOr d m)
+first-append : (d e : ℕ) (l m : List ℕ) → ((j : ℕ) → j isIn l → j < e) → firstOr d (l ++ m) ≡ pick (ltb (firstOr e l) e) (firstOr e l) (firstOr d m)
 unfolding firstOr
 first-append d e [] m h = rw (le-ltb e e (omega arith))
 first-append d e (a ∷ l) m h = rw (lt-ltb a e (h a (List·Memᴰ·head refl)))
@@ -50,18 +50,18 @@ first-append d e (a ∷ l) m h = rw (lt-ltb a e (h a (List·Memᴰ·head refl)))
 -- ---- the elements from a number on
 
 -- by the numbers from there on
-pub from-count : (s : EventSet) (n : ℕ) → n ≤ 128 → elementsFrom s n ≡ filter (has s) (range n (128 - n))
+pub from-count : (s : EventSet) (n : ℕ) → n ≤ 128 → elementsFrom s n ≡ filter (has s) (numbersFrom n (128 - n))
 unfolding elementsFrom elements
 from-count s n h =
     let a : 128 ≡ n + (128 - n) = omega arith in
     let z : 0 + n ≡ n = omega arith in
-    let split : range 0 128 ≡ range 0 n ++ range n (128 - n) = ap (λ d. range 0 d) a ∙ range-split 0 n (128 - n) ∙ ap (λ k. range 0 n ++ range k (128 - n)) z in
+    let split : numbersFrom 0 128 ≡ numbersFrom 0 n ++ numbersFrom n (128 - n) = ap (λ d. numbersFrom 0 d) a ∙ range-split 0 n (128 - n) ∙ ap (λ k. numbersFrom 0 n ++ numbersFrom k (128 - n)) z in
     rw (
       split,
-      filter-append (has s) (range 0 n) (range n (128 - n)),
-      filter-append (leb n) (filter (has s) (range 0 n)) (filter (has s) (range n (128 - n))),
-      filter-none (leb n) (filter (has s) (range 0 n)) (λ j m. lt-leb n j (omega (arith, range-of 0 n (filter-of (has s) (range 0 n) m .0)))),
-      filter-all (leb n) (filter (has s) (range n (128 - n))) (λ j m. le-leb n j (omega (arith, range-of n (128 - n) (filter-of (has s) (range n (128 - n)) m .0)))),
+      filter-append (has s) (numbersFrom 0 n) (numbersFrom n (128 - n)),
+      filter-append (leb n) (filter (has s) (numbersFrom 0 n)) (filter (has s) (numbersFrom n (128 - n))),
+      filter-none (leb n) (filter (has s) (numbersFrom 0 n)) (λ j m. lt-leb n j (omega (arith, range-of 0 n (filter-of (has s) (numbersFrom 0 n) m .0)))),
+      filter-all (leb n) (filter (has s) (numbersFrom n (128 - n))) (λ j m. le-leb n j (omega (arith, range-of n (128 - n) (filter-of (has s) (numbersFrom n (128 - n)) m .0)))),
     )
 
 pub from-start : (s : EventSet) → elementsFrom s 0 ≡ elements s
@@ -75,12 +75,12 @@ from-end s n h = filter-none (leb n) (elements s) (λ j m. lt-leb n j (omega (ar
 pub from-yes : (s : EventSet) (n : ℕ) → n < 128 → has s n ≡ true → elementsFrom s n ≡ n ∷ elementsFrom s (n + 1)
 from-yes s n h y =
     let a : 128 - n ≡ suc (128 - (n + 1)) = omega arith in
-    rw (from-count s n (omega arith), from-count s (n + 1) (omega arith), a, range-next n (128 - (n + 1))) (filter-yes (has s) n (range (n + 1) (128 - (n + 1))) y)
+    rw (from-count s n (omega arith), from-count s (n + 1) (omega arith), a, range-next n (128 - (n + 1))) (filter-yes (has s) n (numbersFrom (n + 1) (128 - (n + 1))) y)
 
 pub from-no : (s : EventSet) (n : ℕ) → n < 128 → has s n ≡ false → elementsFrom s n ≡ elementsFrom s (n + 1)
 from-no s n h y =
     let a : 128 - n ≡ suc (128 - (n + 1)) = omega arith in
-    rw (from-count s n (omega arith), from-count s (n + 1) (omega arith), a, range-next n (128 - (n + 1))) (filter-no (has s) n (range (n + 1) (128 - (n + 1))) y)
+    rw (from-count s n (omega arith), from-count s (n + 1) (omega arith), a, range-next n (128 - (n + 1))) (filter-no (has s) n (numbersFrom (n + 1) (128 - (n + 1))) y)
 
 -- ---- the next element
 
@@ -179,7 +179,7 @@ zeros-fewer (suc d) e n = rw (suc-add d e) (under-min (n % 2) (trailingZeros d (
 
 -- a test that goes by the bits of a word, from the number base on
 module _ (p : ℕ → Bool) (word base : ℕ) (agree : (j : ℕ) → base ≤ j → j < base + 64 → p j ≡ isSet word (j - base)) where
-  first-zeros : (d k : ℕ) → base ≤ k → k + d ≤ base + 64 → firstOr (k + d) (filter p (range k d)) ≡ k + trailingZeros d (word / 2 ^ (k - base))
+  first-zeros : (d k : ℕ) → base ≤ k → k + d ≤ base + 64 → firstOr (k + d) (filter p (numbersFrom k d)) ≡ k + trailingZeros d (word / 2 ^ (k - base))
   unfolding firstOr trailingZeros
   first-zeros zero k h l = rw (range-none k, filter-nil p)
   first-zeros (suc d) k h l =
@@ -188,8 +188,8 @@ module _ (p : ℕ → Bool) (word base : ℕ) (agree : (j : ℕ) → base ≤ j 
       let b : k + suc d ≡ k + 1 + d = omega arith in
       let same = agree k h (omega arith) in
       ⊎-elim
-      (λ y. rw (range-next k d, filter-yes p k (range (k + 1) d) y, bit-one word (k - base) (sym same ∙ y)) (omega arith))
-      (λ n. rw (range-next k d, filter-no p k (range (k + 1) d) n, bit-zero word (k - base) (sym same ∙ n), half, b) (omega (arith, first-zeros d (k + 1) (omega arith) (omega arith))))
+      (λ y. rw (range-next k d, filter-yes p k (numbersFrom (k + 1) d) y, bit-one word (k - base) (sym same ∙ y)) (omega arith))
+      (λ n. rw (range-next k d, filter-no p k (numbersFrom (k + 1) d) n, bit-zero word (k - base) (sym same ∙ n), half, b) (omega (arith, first-zeros d (k + 1) (omega arith) (omega arith))))
       (either-way (p k))
 
 bit-zeros : (word k : ℕ) → k ≤ 64 → nextBit word k ≡ k + trailingZeros (64 - k) (word / 2 ^ k)
@@ -237,19 +237,19 @@ unfolding nextFrom nextBit
 next-low s n h =
     let a : 128 - n ≡ 64 - n + 64 = omega arith in
     let b : n + (64 - n) ≡ 64 = omega arith in
-    let low : filter (has s) (range n (64 - n)) ≡ filter (isSet (s .low)) (range n (64 - n)) =
-    filter-same (has s) (isSet (s .low)) (range n (64 - n)) (λ j m. has-low s j (omega (arith, range-of n (64 - n) m))) in
-    let rest : firstOr 128 (filter (has s) (range 64 64)) ≡ 64 + nextBit (s .high) 0 =
+    let low : filter (has s) (numbersFrom n (64 - n)) ≡ filter (isSet (s .low)) (numbersFrom n (64 - n)) =
+    filter-same (has s) (isSet (s .low)) (numbersFrom n (64 - n)) (λ j m. has-low s j (omega (arith, range-of n (64 - n) m))) in
+    let rest : firstOr 128 (filter (has s) (numbersFrom 64 64)) ≡ 64 + nextBit (s .high) 0 =
     ap (firstOr 128) (sym (from-count s 64 (omega arith))) ∙ next-high s 64 (omega arith) in
     rw (
       from-count s n (omega arith),
       a,
       range-split n (64 - n) 64,
       b,
-      filter-append (has s) (range n (64 - n)) (range 64 64),
+      filter-append (has s) (numbersFrom n (64 - n)) (numbersFrom 64 64),
       low,
-      first-append 128 64 (filter (isSet (s .low)) (range n (64 - n))) (filter (has s) (range 64 64))
-          (λ j m. omega (arith, range-of n (64 - n) (filter-of (isSet (s .low)) (range n (64 - n)) m .0))),
+      first-append 128 64 (filter (isSet (s .low)) (numbersFrom n (64 - n))) (filter (has s) (numbersFrom 64 64))
+          (λ j m. omega (arith, range-of n (64 - n) (filter-of (isSet (s .low)) (numbersFrom n (64 - n)) m .0))),
       rest,
     )
 

@@ -6,7 +6,7 @@ use lib.Bits.{bitOr}
 use lib.Dec.{eqb, leb, ltb}
 use lib.ListN.{length}
 use Rattle.sequences.specs.Choice.{pick}
-use Rattle.sequences.specs.Range.{range}
+use Rattle.sequences.specs.Range.{numbersFrom}
 use Rattle.sequences.specs.Select.{filter}
 use Rattle.event_sets.specs.declared.EventSet.{EventSet}
 
@@ -42,7 +42,7 @@ unionOf a b = record { low = bitOr (a .low) (b .low); high = bitOr (a .high) (b 
 
 -- the numbers that the set has, rising
 unfoldable pub elements : EventSet → List ℕ
-elements s = filter (has s) (range 0 128)
+elements s = filter (has s) (numbersFrom 0 128)
 
 unfoldable pub sizeOf : EventSet → ℕ
 sizeOf s = length (elements s)
@@ -64,4 +64,4 @@ nextFrom s n = firstOr 128 (elementsFrom s n)
 
 -- the same for one word: the first place from k on whose bit is set; 64 where there is none
 unfoldable pub nextBit : ℕ → ℕ → ℕ
-nextBit word k = firstOr 64 (filter (isSet word) (range k (64 - k)))
+nextBit word k = firstOr 64 (filter (isSet word) (numbersFrom k (64 - k)))

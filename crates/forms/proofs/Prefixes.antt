@@ -5,14 +5,14 @@ use Prim.Native.Nat.{ℕ, _+_, _*_, _<_}
 use native.Mathlib.Omega.{arith}
 use lib.ListN.{length, drop, length-append}
 use lib.Seq.{drop-at}
-use Rattle.sequences.specs.Members.{_∈_}
+use Rattle.sequences.specs.Members.{_isIn_}
 use Rattle.forms.specs.Bytes.{bigEndian}
 use Rattle.forms.specs.Forms.{Form, number, each, sectionBytes}
 use Rattle.forms.proofs.Forms.{Laws, number-laws, length-each}
 
 -- each entry of a list fits a form
 abbrev pub AllFit : {A : Type 0} → Form A → List A → Type 0
-AllFit {A} f l = (a : A) → a ∈ l → f .fits a
+AllFit {A} f l = (a : A) → a isIn l → f .fits a
 
 pub form-tells : {A : Type 0} (f : Form A) → Laws f → (a c : A) (x y : List ℕ) → f .fits a → f .fits c → f .bytes a ++ x ≡ f .bytes c ++ y → (a ≡ c) × (x ≡ y)
 form-tells f L a c x y h k e = (

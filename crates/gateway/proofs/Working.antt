@@ -16,7 +16,7 @@ use Rattle.plans.proofs.Theorems.{accepted-ok}
 use Rattle.passages.specs.Events.{passageEvents}
 use Rattle.passages.specs.Faults.{numberOf as passageNumber}
 use Rattle.passages.specs.Reader.{readPassage}
-use Rattle.passages.specs.Views.{Checked, Noted, Rising, checkOf, counted, heldEvents}
+use Rattle.passages.specs.Views.{Checked, Noted, RisingByPlace, checkOf, counted, heldEvents}
 use Rattle.passages.specs.declared.Event.{Event}
 use Rattle.passages.specs.declared.PassageCheck.{PassageCheck}
 use Rattle.progress.specs.Progress.{runOf}
@@ -30,10 +30,10 @@ pub read-held : (b : List ℕ) (r : PlanRead) (loggers kinds : List ℕ) (nodes 
     → r .«logger_count» ≤ 8 → r .«kind_count» ≤ 32 → r .«node_count» ≤ 16 → PlanHeld r loggers kinds
 read-held b r loggers kinds nodes B e l k n = record { loggers-most = l; kinds-most = k; nodes-most = n; rising = rising }
   where
-    rising : planNumber (r .fault) ≡ 0 → Rising (take (r .«kind_count») kinds) × Rising (take (r .«logger_count») loggers)
+    rising : planNumber (r .fault) ≡ 0 → RisingByPlace (take (r .«kind_count») kinds) × RisingByPlace (take (r .«logger_count») loggers)
     rising z =
         let ok = accepted-ok b B (sym (ap (λ (a : PlanAnswer). a .number) e) ∙ z) in
-        (subst (λ (a : PlanAnswer). Rising (a .plan .kinds)) (sym e) (ok .kinds .rising), subst (λ (a : PlanAnswer). Rising (a .plan .loggers)) (sym e) (ok .loggers .rising))
+        (subst (λ (a : PlanAnswer). RisingByPlace (a .plan .kinds)) (sym e) (ok .kinds .rising), subst (λ (a : PlanAnswer). RisingByPlace (a .plan .loggers)) (sym e) (ok .loggers .rising))
 
 -- under what reading the plan answers
 module _ (room : ℕ) (passage : List ℕ) (a : PlanAnswer) where

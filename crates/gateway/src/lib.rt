@@ -9,16 +9,14 @@ ghost use mathlib.Core.Bool.{true};
 ghost use mathlib.Core.List.{List};
 ghost use mathlib.Core.Path.{_≡_};
 ghost use Prim.Native.Nat.{ℕ, min, _+_, _≤_};
-ghost use lib.ListN.{length, take};
 ghost use Rattle.sequences.specs.Choice.{pick};
-ghost use Rattle.plans.specs.Views.{answerOf};
 ghost use Rattle.passages.specs.Views.{Room};
 ghost use Rattle.emissions.specs.Emissions.{reached};
 ghost use Rattle.progress.specs.Progress.{Progress};
 ghost use Rattle.detector.specs.Steps.{Noticed, Runs, Says};
-ghost use Rattle.working.specs.Latest.{LatestExact};
-ghost use Rattle.working.specs.Working.{Answers, endOf, planWorked, turnedBack, worked};
-ghost use Rattle.gateway.specs.Steps.{PlanHeld};
+ghost use Rattle.working.specs.Latest.{LatestWritten};
+ghost use Rattle.working.specs.Working.{Answers, FilesWorked, endOf, turnedBack};
+ghost use Rattle.gateway.specs.Steps.{PlanHeld, WorkedUnder};
 
 // A file is turned back: no finding, no byte.
 fn turned_back(number: u64, place: usize) -> Answer
@@ -250,10 +248,8 @@ fn work_under(
     globals: &mut [u64],
 ) -> Answer
     requires { ⌜ PlanHeld read (now loggers) (now kinds) × Room (now passage) (now ticks) × Room (now passage) (now globals) ⌝ }
-    ensures { λ r. ⌜ Answers
-        (planWorked (length (now (output .entry))) (now (passage .entry))
-        (answerOf read (now (loggers .entry)) (now (kinds .entry)) (now (nodes .entry))))
-        (now (output .entry)) r (now (output .exit)) ⌝ }
+    ensures { λ r. ⌜ WorkedUnder read (now (loggers .entry)) (now (kinds .entry)) (now (nodes .entry))
+        (now (passage .entry)) (now (output .entry)) r (now (output .exit)) ⌝ }
 {
     let plan_fault = read.fault;
     if !plan_fault.is_none() {
@@ -304,10 +300,8 @@ fn work_in_tables(
     output: &mut [u8],
 ) -> Answer
     requires { ⌜ PlanHeld read (now loggers) (now kinds) ⌝ }
-    ensures { λ r. ⌜ Answers
-        (planWorked (length (now (output .entry))) (now (passage .entry))
-        (answerOf read (now (loggers .entry)) (now (kinds .entry)) (now (nodes .entry))))
-        (now (output .entry)) r (now (output .exit)) ⌝ }
+    ensures { λ r. ⌜ WorkedUnder read (now (loggers .entry)) (now (kinds .entry)) (now (nodes .entry))
+        (now (passage .entry)) (now (output .entry)) r (now (output .exit)) ⌝ }
 {
     let size = passage.len();
     if size < 194 {
@@ -354,10 +348,8 @@ fn work_in_tables(
 
 // Both files are checked whole, the plan first; then the passage's events are worked.
 pub fn work(plan: &[u8], passage: &[u8], output: &mut [u8]) -> Answer
-    ensures answers { λ r. ⌜ Answers
-        (worked (now (plan .entry)) (now (passage .entry)) (length (now (output .entry))))
-        (now (output .entry)) r (now (output .exit)) ⌝ }
-    ensures latest { λ r. ⌜ LatestExact (now (plan .entry)) (now (passage .entry)) (r .findings) (take (r .bytes) (now (output .exit))) ⌝ }
+    ensures answers { λ r. ⌜ FilesWorked (now (plan .entry)) (now (passage .entry)) (now (output .entry)) r (now (output .exit)) ⌝ }
+    ensures latest { λ r. ⌜ LatestWritten (now (plan .entry)) (now (passage .entry)) r (now (output .exit)) ⌝ }
 {
     let mut loggers = [0u16; 8];
     let mut kinds = [0u16; 32];

@@ -10,7 +10,7 @@ use lib.Seq.{getD-take}
 use lib.Dec.{eqb, ltb}
 use Rattle.sequences.specs.Choice.{pick}
 use Rattle.sequences.specs.Loops.{fold, loop}
-use Rattle.sequences.specs.Members.{_∈_}
+use Rattle.sequences.specs.Members.{_isIn_}
 use Rattle.sequences.proofs.Booleans.{either-way, never-both}
 use Rattle.sequences.proofs.Parts.{getD-map}
 use Rattle.timestamps.specs.declared.Timestamp.{Timestamp}
@@ -37,18 +37,18 @@ use Rattle.latest_stamps.proofs.Turns.{TurnOk, all-none, all-one, pick-
 -- ---- lists of lists
 module _ {A : Type 0} where
   -- what a list has at a place where something is set
-  set-in : (l : List A) (k : ℕ) (x : A) {y : A} → y ∈ set l k x → (y ≡ x) ⊎ (y ∈ l)
+  set-in : (l : List A) (k : ℕ) (x : A) {y : A} → y isIn set l k x → (y ≡ x) ⊎ (y isIn l)
   set-in [] k x m = absurd (List·Memᴰ·not-nil m)
   set-in (a ∷ l) zero x m = ⊎-elim inl (λ i. inr (List·Memᴰ·tail i)) (List·Memᴰ·cases-cons m)
   set-in (a ∷ l) (suc k) x m =
       ⊎-elim (λ e. inr (List·Memᴰ·head e)) (λ i. ⊎-elim inl (λ j. inr (List·Memᴰ·tail j)) (set-in l k x i)) (List·Memᴰ·cases-cons m)
 
-  getD-all : (Q : A → Type 0) (l : List A) (k : ℕ) (d : A) → ((a : A) → a ∈ l → Q a) → Q d → Q (getD l k d)
+  getD-all : (Q : A → Type 0) (l : List A) (k : ℕ) (d : A) → ((a : A) → a isIn l → Q a) → Q d → Q (getD l k d)
   getD-all Q [] k d h q = q
   getD-all Q (a ∷ l) zero d h q = h a (List·Memᴰ·head refl)
   getD-all Q (a ∷ l) (suc k) d h q = getD-all Q l k d (λ b m. h b (List·Memᴰ·tail m)) q
 
-  replicate-of : (n : ℕ) (x : A) {y : A} → y ∈ replicate n x → y ≡ x
+  replicate-of : (n : ℕ) (x : A) {y : A} → y isIn replicate n x → y ≡ x
   replicate-of zero x m = absurd (List·Memᴰ·not-nil m)
   replicate-of (suc n) x m = ⊎-elim (λ e. e) (λ i. replicate-of n x i) (List·Memᴰ·cases-cons m)
 
@@ -64,7 +64,7 @@ module _ (P : Occurrence → Type 0) (s : Setting) (nodes : List Node)
   abbrev Fine : ℕ → Progress → Type 0
   Fine i p = Kept P (s .loggers) (length nodes) i p
 
-  arrivals-keep : (kind : ℕ) (own : Occurrence) (made : List (List Occurrence)) (input : ℕ) → P own → ((l : List Occurrence) → l ∈ made → All P l)
+  arrivals-keep : (kind : ℕ) (own : Occurrence) (made : List (List Occurrence)) (input : ℕ) → P own → ((l : List Occurrence) → l isIn made → All P l)
       → All P (arrivalsOf kind own made input)
   unfolding arrivalsOf
   arrivals-keep kind own made input h k =

@@ -5,7 +5,7 @@ use mathlib.Core.Path.{_≡_, sym, _∙_}
 use Prim.Native.Nat.{ℕ, _<_, _≤_}
 use native.Mathlib.Omega.{arith}
 use lib.ListN.{getD, length, take}
-use Rattle.sequences.specs.Members.{_∈_, SameMembers}
+use Rattle.sequences.specs.Members.{_isIn_, SameMembers}
 use Rattle.sequences.proofs.Members.{map-in, map-of}
 use Rattle.sequences.proofs.Parts.{member-at}
 use Rattle.timestamps.specs.declared.Timestamp.{Timestamp}
@@ -38,12 +38,12 @@ module _ (clocks : Clocks) (stamps : List Timestamp) (small : Placeable stamps) 
   placeable : Placeable (stampsAt stamps (o .events))
   placeable = stamps-placeable clocks stamps small (o .events) (x .within)
 
-  pub latest-of : (t : Timestamp) → t ∈ members (o .latest)
-      → (t ∈ stampsAt stamps (o .events)) × ((u : Timestamp) → u ∈ stampsAt stamps (o .events) → before clocks t u ≡ false)
+  pub latest-of : (t : Timestamp) → t isIn members (o .latest)
+      → (t isIn stampsAt stamps (o .events)) × ((u : Timestamp) → u isIn stampsAt stamps (o .events) → before clocks t u ≡ false)
   latest-of t m = maxima-of (before clocks) (stampsAt stamps (o .events)) t (members-joinOf clocks (stampsAt stamps (o .events)) placeable .0 t (rw (x .latest) at m))
 
-  pub latest-in : (t : Timestamp) → t ∈ stampsAt stamps (o .events) → ((u : Timestamp) → u ∈ stampsAt stamps (o .events) → before clocks t u ≡ false)
-      → t ∈ members (o .latest)
+  pub latest-in : (t : Timestamp) → t isIn stampsAt stamps (o .events) → ((u : Timestamp) → u isIn stampsAt stamps (o .events) → before clocks t u ≡ false)
+      → t isIn members (o .latest)
   latest-in t m h = rw (x .latest) (members-joinOf clocks (stampsAt stamps (o .events)) placeable .1 t (maxima-in (before clocks) (stampsAt stamps (o .events)) t m h))
 
   -- and it has a composite stamp: there is one, and they are pairwise concurrent
@@ -85,7 +85,7 @@ module _ (p : Plan) (b : List ℕ) (es : List EventEntry) (ok : PlanOk p) (B : B
   pub accepted-placeable : Placeable (map stampOf (passageEvents p b))
   accepted-placeable t m =
       let (e, i, same) = map-of stampOf (passageEvents p b) m in
-      let few : (e : Event) → e ∈ passageEvents p b → e .logger < 8 =
+      let few : (e : Event) → e isIn passageEvents p b → e .logger < 8 =
       λ e i. member-at (λ e. e .logger < 8) (passageEvents p b) noEvent
       (λ k j. omega (arith, accepted-placed p b es B h k (omega (arith, accepted-count p b es B h)) .logger, ok .loggers .most)) i in
       rw same (few e i)

@@ -10,7 +10,7 @@ use lib.Dec.{eqb, leb, ltb}
 use Rattle.sequences.specs.Choice.{pick}
 use Rattle.sequences.specs.Loops.{fold}
 use Rattle.sequences.specs.Marks.{marked, unmarked}
-use Rattle.sequences.specs.Members.{_∈_}
+use Rattle.sequences.specs.Members.{_isIn_}
 use Rattle.sequences.proofs.Marks.{marked-order, unmarked-order, order-in}
 use Rattle.sequences.proofs.Members.{map-of}
 use Rattle.occurrences.specs.declared.Occurrence.{Occurrence}
@@ -35,7 +35,7 @@ pub pick-all : {A : Type 0} (Q : A → Type 0) (b : Bool) (x y : A) → Q x → 
 pick-all Q true x y h k = h
 pick-all Q false x y h k = k
 
-pub fold-all : {S A : Type 0} (Q : S → Type 0) (f : S → A → S) (l : List A) (s : S) → Q s → ((s : S) (a : A) → a ∈ l → Q s → Q (f s a)) → Q (fold f l s)
+pub fold-all : {S A : Type 0} (Q : S → Type 0) (f : S → A → S) (l : List A) (s : S) → Q s → ((s : S) (a : A) → a isIn l → Q s → Q (f s a)) → Q (fold f l s)
 unfolding fold
 fold-all Q f [] s q h = q
 fold-all Q f (a ∷ l) s q h = fold-all Q f l (f s a) (h s a (List·Memᴰ·head refl) q) (λ t b m. h t b (List·Memᴰ·tail m))

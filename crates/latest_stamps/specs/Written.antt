@@ -5,7 +5,7 @@ use mathlib.Core.Path.{_≡_}
 use mathlib.Core.Bool.{true}
 use Prim.Native.Nat.{ℕ, _<_}
 use lib.ListN.{length}
-use Rattle.sequences.specs.Members.{_∈_}
+use Rattle.sequences.specs.Members.{_isIn_}
 use Rattle.occurrences.specs.declared.Occurrence.{Occurrence}
 use Rattle.detections.specs.Findings.{Finding, findingsBytes}
 use Rattle.detections.specs.Views.{findingOf}
@@ -15,7 +15,7 @@ use Rattle.progress.specs.Progress.{Progress}
 
 -- every occurrence of a list has the property
 abbrev pub All : (Occurrence → Type 0) → List Occurrence → Type 0
-All P l = (o : Occurrence) → o ∈ l → P o
+All P l = (o : Occurrence) → o isIn l → P o
 
 -- a finding is that of an occurrence made by one of n nodes
 pub record Shown (P : Occurrence → Type 0) (loggers : List ℕ) (n : ℕ) (f : Finding) : Type 0 where
@@ -30,13 +30,13 @@ pub record Written (P : Occurrence → Type 0) (loggers : List ℕ) (n count : �
   pub findings : List Finding
   pub many : length findings ≡ count
   pub laid : bytes ≡ findingsBytes findings
-  pub each : (f : Finding) → f ∈ findings → Shown P loggers n f
+  pub each : (f : Finding) → f isIn findings → Shown P loggers n f
 
 -- after i events, or where one of the three limits ended the work
 pub record Kept (P : Occurrence → Type 0) (loggers : List ℕ) (n i : ℕ) (p : Progress) : Type 0 where
-  pub lefts : (l : List Occurrence) → l ∈ (p .lefts) → All P l
-  pub rights : (l : List Occurrence) → l ∈ (p .rights) → All P l
-  pub made : (l : List Occurrence) → l ∈ (p .made) → All P l
+  pub lefts : (l : List Occurrence) → l isIn (p .lefts) → All P l
+  pub rights : (l : List Occurrence) → l isIn (p .rights) → All P l
+  pub made : (l : List Occurrence) → l isIn (p .made) → All P l
   pub written : Written P loggers n (p .findings) (p .bytes)
   pub event : (reached (p .limit) ≡ true) ⊎ (p .event ≡ i)
   pub limit : (l : Limit) × (p .limit ≡ numberOf l)

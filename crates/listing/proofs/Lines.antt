@@ -15,38 +15,38 @@ use Rattle.listing.specs.Text.{comma, listed, numberText, lineText, line
 
 -- ---- the first n of a list, from place i on
 module _ {A : Type 0} (text : ℕ → A → List ℕ) (n : ℕ) (l : List A) where
-  pub listed-turn : (mark i : ℕ) (d : A) → i < n → i < length l
-      → listed text mark (drop i (take n l)) ≡ text mark (getD l i d) ++ listed text comma (drop (i + 1) (take n l))
+  pub listed-turn : (separator i : ℕ) (d : A) → i < n → i < length l
+      → listed text separator (drop i (take n l)) ≡ text separator (getD l i d) ++ listed text comma (drop (i + 1) (take n l))
   unfolding listed
-  listed-turn mark i d h k =
+  listed-turn separator i d h k =
       let m : i < length (take n l) = omega (arith, length-take n l) in
       let e : drop i (take n l) ≡ getD l i d ∷ drop (i + 1) (take n l) = rw (add-one, drop-cons (take n l) i d m, getD-take n l i d h) in
-      ap (listed text mark) e
+      ap (listed text separator) e
 
-  pub listed-end : (mark i : ℕ) → length (take n l) ≤ i → listed text mark (drop i (take n l)) ≡ []
+  pub listed-end : (separator i : ℕ) → length (take n l) ≤ i → listed text separator (drop i (take n l)) ≡ []
   unfolding listed
-  listed-end mark i h =
+  listed-end separator i h =
       let m : i ≡ length (take n l) + (i - length (take n l)) = omega arith in
       let e : drop i (take n l) ≡ [] =
       ap (λ j. drop j (take n l)) m ∙ sym (drop-drop (i - length (take n l)) (length (take n l)) (take n l)) ∙ rw (drop-length (take n l)) (drop-nil (i - length (take n l))) in
-      ap (listed text mark) e
+      ap (listed text separator) e
 
 -- ---- the events from number e on
 module _ (s : EventSet) where
-  pub events-start : (e : ℕ) → e ≡ nextFrom s 0 → (nextFrom s e ≡ e) × ((mark : ℕ) → listed numberText mark (elementsFrom s e) ≡ listed numberText mark (elements s))
-  events-start e h = let w = walk-start s e h in (w .0, (λ mark. ap (listed numberText mark) (w .1)))
+  pub events-start : (e : ℕ) → e ≡ nextFrom s 0 → (nextFrom s e ≡ e) × ((separator : ℕ) → listed numberText separator (elementsFrom s e) ≡ listed numberText separator (elements s))
+  events-start e h = let w = walk-start s e h in (w .0, (λ separator. ap (listed numberText separator) (w .1)))
 
   pub events-turn : (e e′ : ℕ) → nextFrom s e ≡ e → e < 128 → e′ ≡ nextFrom s (e + 1)
       → (nextFrom s e′ ≡ e′)
-      × ((mark : ℕ) → listed numberText mark (elementsFrom s e) ≡ numberText mark e ++ listed numberText comma (elementsFrom s e′))
+      × ((separator : ℕ) → listed numberText separator (elementsFrom s e) ≡ numberText separator e ++ listed numberText comma (elementsFrom s e′))
       × (e < e′)
       × (e′ ≤ 128)
   unfolding listed
-  events-turn e e′ h l f = let w = walk-turn s e e′ h l f in (w .0, (λ mark. ap (listed numberText mark) (w .1)), w .2, w .3)
+  events-turn e e′ h l f = let w = walk-turn s e e′ h l f in (w .0, (λ separator. ap (listed numberText separator) (w .1)), w .2, w .3)
 
-  pub events-end : (mark e : ℕ) → 128 ≤ e → listed numberText mark (elementsFrom s e) ≡ []
+  pub events-end : (separator e : ℕ) → 128 ≤ e → listed numberText separator (elementsFrom s e) ≡ []
   unfolding listed
-  events-end mark e h = ap (listed numberText mark) (from-end s e h)
+  events-end separator e h = ap (listed numberText separator) (from-end s e h)
 
 -- ---- the findings from a place on
 module _ (b : List ℕ) (at n : ℕ) (a : FindingAnswer) (r : a ≡ readFinding b at) where

@@ -31,8 +31,8 @@ unfolding put
 wrote-one l at a h = record { next = refl; now = sets-eq (a ∷ []) l at (omega arith) }
 
 -- a mark, and then the digits of a number
-pub wrote-number : {l l′ ds : List ℕ} {at r : ℕ} (mark n k : ℕ) → at < length l → n < 2 ^ 64 → Fewest 10 1 n k → ds ≡ digits 10 k n
-    → Wrote (set l at mark) (at + 1) ds r l′ → Wrote l at (numberText mark n) r l′
+pub wrote-number : {l l′ ds : List ℕ} {at r : ℕ} (separator n k : ℕ) → at < length l → n < 2 ^ 64 → Fewest 10 1 n k → ds ≡ digits 10 k n
+    → Wrote (set l at separator) (at + 1) ds r l′ → Wrote l at (numberText separator n) r l′
 unfolding numberText
-wrote-number {l} {l′} {ds} {at} {r} mark n k h b f e w =
-    subst (λ x. Wrote l at (mark ∷ x) r l′) (e ∙ decimal-is n k b f) (wrote-then (omega arith) (wrote-one l at mark h) w)
+wrote-number {l} {l′} {ds} {at} {r} separator n k h b f e w =
+    subst (λ x. Wrote l at (separator ∷ x) r l′) (e ∙ decimal-is n k b f) (wrote-then (omega arith) (wrote-one l at separator h) w)

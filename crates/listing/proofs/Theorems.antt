@@ -5,14 +5,14 @@ use Prim.Native.Nat.{ℕ, _+_, _≤_}
 use native.Mathlib.Omega.{arith}
 use lib.ListN.{length, drop, length-append, length-drop}
 use lib.Seq.{drop-drop, drop-append-seam}
-use Rattle.sequences.specs.Members.{_∈_}
+use Rattle.sequences.specs.Members.{_isIn_}
 use Rattle.detections.specs.Findings.{Finding, findingBytes, findingsBytes}
 use Rattle.readings.specs.Reader.{WithinLimits}
 use Rattle.readings.proofs.Theorems.{laid-out-is-read}
 use Rattle.listing.specs.Text.{lineText, linesText, linesAt}
 
 -- findings within the limits, one after the other from a place on
-pub lines-of-findings : (fs : List Finding) (b y : List ℕ) (at : ℕ) → ((f : Finding) → f ∈ fs → WithinLimits f) → at ≤ length b → drop at b ≡ findingsBytes fs ++ y
+pub lines-of-findings : (fs : List Finding) (b y : List ℕ) (at : ℕ) → ((f : Finding) → f isIn fs → WithinLimits f) → at ≤ length b → drop at b ≡ findingsBytes fs ++ y
     → linesAt b at (length fs) ≡ linesText fs
 unfolding linesAt linesText findingsBytes
 lines-of-findings [] b y at w h e = refl

@@ -2,7 +2,7 @@
 use mathlib.Core.List.{List}
 use mathlib.Core.Path.{_≡_}
 use Prim.Native.Nat.{ℕ}
-use Rattle.sequences.specs.Members.{_∈_}
+use Rattle.sequences.specs.Members.{_isIn_}
 use Rattle.plans.specs.Layout.{planClocks}
 use Rattle.plans.specs.Reader.{readPlan}
 use Rattle.detections.specs.Findings.{Finding, findingsBytes}
@@ -15,5 +15,5 @@ use Rattle.listing.specs.Text.{linesText, linesAt}
 pub record Printed (plan passage : List ℕ) (room : ℕ) (out′ : List ℕ) (r : Answer) : Type 0 where
   pub findings : List Finding
   pub written : worked plan passage room .bytes ≡ findingsBytes findings
-  pub exact : (f : Finding) → f ∈ findings → ExactFinding (planClocks (readPlan plan .plan)) (entriesOf plan passage) f
+  pub exact : (f : Finding) → f isIn findings → ExactFinding (planClocks (readPlan plan .plan)) (entriesOf plan passage) f
   pub lines : linesAt out′ 0 (r .findings) ≡ linesText findings

@@ -47,16 +47,16 @@ word-end = 101 ∷ 110 ∷ 100 ∷ []
 
 -- ---- pieces of a line, each after a mark
 unfoldable pub numberText : ℕ → ℕ → List ℕ
-numberText mark n = mark ∷ decimal n
+numberText separator n = separator ∷ decimal n
 
 -- 2:110
 unfoldable pub stampText : ℕ → Stamp → List ℕ
-stampText mark s = numberText mark (s .logger) ++ numberText colon (s .tick .0)
+stampText separator s = numberText separator (s .logger) ++ numberText colon (s .tick .0)
 
 -- the first after the mark, each other after a comma
 unfoldable pub listed : {A : Type 0} → (ℕ → A → List ℕ) → ℕ → List A → List ℕ
-listed text mark [] = []
-listed text mark (a ∷ l) = text mark a ++ listed text comma l
+listed text separator [] = []
+listed text separator (a ∷ l) = text separator a ++ listed text comma l
 
 -- ---- lines
 

@@ -45,23 +45,23 @@ fn put_text(page: &mut [u8], at: usize, text: &[u8]) -> usize
 }
 
 // A mark and the number in decimal.
-fn put_number(page: &mut [u8], at: usize, mark: u8, n: u64) -> usize
+fn put_number(page: &mut [u8], at: usize, separator: u8, n: u64) -> usize
     requires { ⌜ at + 21 ≤ length (now page) ⌝ }
-    ensures { λ r. ⌜ Wrote (now (page .entry)) at (numberText mark n) r (now (page .exit)) × (at < r) × (r ≤ at + 21) ⌝ }
+    ensures { λ r. ⌜ Wrote (now (page .entry)) at (numberText separator n) r (now (page .exit)) × (at < r) × (r ≤ at + 21) ⌝ }
 {
     let mut digits = [0u8; 20];
     let count = io::decimal(n, &mut digits);
-    page[at] = mark;
+    page[at] = separator;
     put_text(page, at + 1, &digits[..count])
 }
 
 // A mark and the stamp, as 2:110.
-fn put_stamp(page: &mut [u8], at: usize, mark: u8, s: Stamp) -> usize
+fn put_stamp(page: &mut [u8], at: usize, separator: u8, s: Stamp) -> usize
     requires { ⌜ at + 42 ≤ length (now page) ⌝ }
-    ensures { λ r. ⌜ Wrote (now (page .entry)) at (stampText mark s) r (now (page .exit)) × (at < r) × (r ≤ at + 42) ⌝ }
+    ensures { λ r. ⌜ Wrote (now (page .entry)) at (stampText separator s) r (now (page .exit)) × (at < r) × (r ≤ at + 42) ⌝ }
 {
     let tick = s.tick;
-    let a = put_number(page, at, mark, s.logger);
+    let a = put_number(page, at, separator, s.logger);
     put_number(page, a, b':', tick.0)
 }
 
@@ -71,15 +71,15 @@ fn put_stamps(page: &mut [u8], at: usize, count: usize, stamps: [Stamp; 8]) -> u
     ensures { λ r. ⌜ Wrote (now (page .entry)) at (listed stampText space (take count stamps)) r (now (page .exit)) × (at ≤ r) × (r ≤ at + 336) ⌝ }
 {
     let mut to = at;
-    let mut mark = b' ';
+    let mut separator = b' ';
     let mut i: usize = 0;
     while i < 8 {
         if i >= count {
             return to;
         }
         let s = stamps[i];
-        to = put_stamp(page, to, mark, s);
-        mark = b',';
+        to = put_stamp(page, to, separator, s);
+        separator = b',';
         i += 1;
     }
     to
@@ -91,11 +91,11 @@ fn put_events(page: &mut [u8], at: usize, events: EventSet) -> usize
     ensures { λ r. ⌜ Wrote (now (page .entry)) at (listed numberText space (elements events)) r (now (page .exit)) × (at ≤ r) × (r ≤ at + 2688) ⌝ }
 {
     let mut to = at;
-    let mut mark = b' ';
+    let mut separator = b' ';
     let mut e = event_sets::next_from(events, 0);
     while e < 128 {
-        to = put_number(page, to, mark, e as u64);
-        mark = b',';
+        to = put_number(page, to, separator, e as u64);
+        separator = b',';
         e = event_sets::next_from(events, e + 1);
     }
     to

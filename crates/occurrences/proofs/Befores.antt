@@ -9,8 +9,8 @@ use native.Mathlib.Omega.{arith}
 use lib.Dec.{ltb}
 use lib.ListN.{getD}
 use borrow.Author.Tests.{eq-eqb, le-ltb, lt-ltb, ltb-true, ne-eqb}
-use Rattle.sequences.specs.Members.{_∈_}
-use Rattle.sequences.specs.Select.{any}
+use Rattle.sequences.specs.Members.{_isIn_}
+use Rattle.sequences.specs.Select.{somePasses}
 use Rattle.sequences.proofs.Booleans.{either-way, false-of-not-true, never-both}
 use Rattle.sequences.proofs.Select.{all-in, all-of, any-in, any-of}
 use Rattle.timestamps.specs.declared.Timestamp.{Timestamp}
@@ -86,25 +86,25 @@ module _ (low v w g : ℕ) where
 module _ (clocks : Clocks) (x y : Occurrence) (v g w h : ℕ → ℕ) (a : Seen clocks v g (members (x .latest))) (b : Seen clocks w h (members (y .latest))) (c : IsComposite clocks (members (x .latest)))
     (low : ℕ) (least : Lowest 8 g low) where
   -- a stamp of the lowest global tick
-  low-stamp : (t : Timestamp) × (t ∈ members (x .latest)) × (global clocks t ≡ low)
+  low-stamp : (t : Timestamp) × (t isIn members (x .latest)) × (global clocks t ≡ low)
   low-stamp = lowest-is clocks v g (members (x .latest)) a low least (c .some .0) (c .some .1)
 
   -- every stamp of y has one before it
-  all-before : ((t : Timestamp) → t ∈ members (y .latest) → any (λ s. before clocks s t) (members (x .latest)) ≡ true) → isBefore clocks x y ≡ true
+  all-before : ((t : Timestamp) → t isIn members (y .latest) → somePasses (λ s. before clocks s t) (members (x .latest)) ≡ true) → isBefore clocks x y ≡ true
   unfolding isBefore allBefore
-  all-before f = all-in (λ t. any (λ s. before clocks s t) (members (x .latest))) (members (y .latest)) f
+  all-before f = all-in (λ t. somePasses (λ s. before clocks s t) (members (x .latest))) (members (y .latest)) f
 
   -- one of y has none
-  none-before : (t : Timestamp) → t ∈ members (y .latest) → ((s : Timestamp) → s ∈ members (x .latest) → Before clocks s t → ⊥) → isBefore clocks x y ≡ false
+  none-before : (t : Timestamp) → t isIn members (y .latest) → ((s : Timestamp) → s isIn members (x .latest) → Before clocks s t → ⊥) → isBefore clocks x y ≡ false
   unfolding isBefore allBefore
   none-before t m f = false-of-not-true _ (λ e.
-      let (s, i, z) = any-of (λ s. before clocks s t) (members (x .latest)) (all-of (λ t. any (λ s. before clocks s t) (members (x .latest))) (members (y .latest)) e m) in
+      let (s, i, z) = any-of (λ s. before clocks s t) (members (x .latest)) (all-of (λ t. somePasses (λ s. before clocks s t) (members (x .latest))) (members (y .latest)) e m) in
       f s i (before-says clocks s t z))
 
-  clear-some : (t : Timestamp) → low + 1 < global clocks t → any (λ s. before clocks s t) (members (x .latest)) ≡ true
+  clear-some : (t : Timestamp) → low + 1 < global clocks t → somePasses (λ s. before clocks s t) (members (x .latest)) ≡ true
   clear-some t l = let (s, i, e) = low-stamp in any-in (λ s. before clocks s t) (members (x .latest)) i (clear-before clocks s t (omega arith))
 
-  has-some : (t : Timestamp) → t ∈ members (y .latest) → Has low (v (t .logger)) (w (t .logger)) (h (t .logger)) → any (λ s. before clocks s t) (members (x .latest)) ≡ true
+  has-some : (t : Timestamp) → t isIn members (y .latest) → Has low (v (t .logger)) (w (t .logger)) (h (t .logger)) → somePasses (λ s. before clocks s t) (members (x .latest)) ≡ true
   has-some t m (none e) = absurd (let u : w (t .logger) ≡ t .tick .0 + 1 = b .local t m in omega arith)
   has-some t m (own p l) =
       let u : w (t .logger) ≡ t .tick .0 + 1 = b .local t m in
@@ -112,7 +112,7 @@ module _ (clocks : Clocks) (x y : Occurrence) (v g w h : ℕ → ℕ) (a : Seen 
       (before-is clocks (stamp (t .logger) (v (t .logger))) t (one-clock refl (omega arith)))
   has-some t m (lowest l) = let u : h (t .logger) ≡ global clocks t + 1 = b .whole t m in clear-some t (omega arith)
 
-  some-has : (t : Timestamp) → t ∈ members (y .latest) → (s : Timestamp) → s ∈ members (x .latest) → Before clocks s t → Has low (v (t .logger)) (w (t .logger)) (h (t .logger))
+  some-has : (t : Timestamp) → t isIn members (y .latest) → (s : Timestamp) → s isIn members (x .latest) → Before clocks s t → Has low (v (t .logger)) (w (t .logger)) (h (t .logger))
   some-has t m s i (one-clock e l) =
       let u : w (t .logger) ≡ t .tick .0 + 1 = b .local t m in
       let z : v (t .logger) ≡ s .tick .0 + 1 = ap v (sym e) ∙ a .local s i in

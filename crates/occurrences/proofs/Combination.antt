@@ -5,8 +5,8 @@ use mathlib.Core.List.{List, [], _∷_, _++_, append-assoc, append-nil, List·Me
 use mathlib.Core.Logic.{⊎-elim}
 use Prim.Native.Nat.{ℕ}
 use Rattle.sequences.specs.Loops.{fold}
-use Rattle.sequences.specs.Members.{_∈_, SameMembers}
-use Rattle.sequences.specs.Select.{any}
+use Rattle.sequences.specs.Members.{_isIn_, SameMembers}
+use Rattle.sequences.specs.Select.{somePasses}
 use Rattle.sequences.proofs.Loops.{fold-none, fold-next}
 use Rattle.sequences.proofs.Members.{same-refl}
 use Rattle.event_sets.specs.declared.EventSet.{EventSet}
@@ -36,7 +36,7 @@ unfolding stampsOf
 stamps-append [] qs = refl
 stamps-append (o ∷ ps) qs = rw (stamps-append ps qs) (sym (append-assoc (members (o .latest)) (stampsOf ps) (stampsOf qs)))
 
-pub stamps-in : {o : Occurrence} {s : Timestamp} (ps : List Occurrence) → o ∈ ps → s ∈ members (o .latest) → s ∈ stampsOf ps
+pub stamps-in : {o : Occurrence} {s : Timestamp} (ps : List Occurrence) → o isIn ps → s isIn members (o .latest) → s isIn stampsOf ps
 unfolding stampsOf
 stamps-in [] m i = absurd (List·Memᴰ·not-nil m)
 stamps-in {s = s} (p ∷ ps) m i =
@@ -45,7 +45,7 @@ stamps-in {s = s} (p ∷ ps) m i =
     (λ n. Memᴰ·append-right (members (p .latest)) (stamps-in ps n i))
     (List·Memᴰ·cases-cons m)
 
-pub stamps-of : {s : Timestamp} (ps : List Occurrence) → s ∈ stampsOf ps → (o : Occurrence) × (o ∈ ps) × (s ∈ members (o .latest))
+pub stamps-of : {s : Timestamp} (ps : List Occurrence) → s isIn stampsOf ps → (o : Occurrence) × (o isIn ps) × (s isIn members (o .latest))
 unfolding stampsOf
 stamps-of [] m = absurd (List·Memᴰ·not-nil m)
 stamps-of (p ∷ ps) m =
@@ -73,13 +73,13 @@ events-append [] qs = sym (none-union (eventsOf qs))
 events-append (o ∷ ps) qs = rw (events-append ps qs) (sym (union-assoc (o .events) (eventsOf ps) (eventsOf qs)))
 
 -- a number is among them where it is one of some part
-pub events-has : (ps : List Occurrence) (j : ℕ) → has (eventsOf ps) j ≡ any (λ o. has (o .events) j) ps
-unfolding eventsOf any
+pub events-has : (ps : List Occurrence) (j : ℕ) → has (eventsOf ps) j ≡ somePasses (λ o. has (o .events) j) ps
+unfolding eventsOf somePasses
 events-has [] j = has-none j
 events-has (o ∷ ps) j = has-union (o .events) (eventsOf ps) j ∙ ap (λ b. has (o .events) j || b) (events-has ps j)
 
 -- a part's events are all among them
-part-within : {o : Occurrence} (ps : List Occurrence) → o ∈ ps → unionOf (o .events) (eventsOf ps) ≡ eventsOf ps
+part-within : {o : Occurrence} (ps : List Occurrence) → o isIn ps → unionOf (o .events) (eventsOf ps) ≡ eventsOf ps
 unfolding eventsOf
 part-within [] m = absurd (List·Memᴰ·not-nil m)
 part-within {o} (p ∷ ps) m =
@@ -91,7 +91,7 @@ part-within {o} (p ∷ ps) m =
     ∙ ap (unionOf (p .events)) (part-within ps n))
     (List·Memᴰ·cases-cons m)
 
-parts-within : (ps qs : List Occurrence) → ((o : Occurrence) → o ∈ ps → o ∈ qs) → unionOf (eventsOf ps) (eventsOf qs) ≡ eventsOf qs
+parts-within : (ps qs : List Occurrence) → ((o : Occurrence) → o isIn ps → o isIn qs) → unionOf (eventsOf ps) (eventsOf qs) ≡ eventsOf qs
 unfolding eventsOf
 parts-within [] qs h = none-union (eventsOf qs)
 parts-within (o ∷ ps) qs h =

@@ -6,7 +6,7 @@ use Prim.Native.Nat.{ℕ, _+_, _*_, _%_, _^_, _<_}
 use native.Mathlib.Decide.{ℕ-discrete}
 use native.Mathlib.Omega.{arith}
 use lib.ListN.{getD, length}
-use Rattle.sequences.specs.Members.{_∈_}
+use Rattle.sequences.specs.Members.{_isIn_}
 use Rattle.event_sets.specs.declared.EventSet.{EventSet}
 use Rattle.event_sets.specs.Sets.{markedWith, noEvents}
 use Rattle.timestamps.specs.declared.Timestamp.{Timestamp}
@@ -43,10 +43,10 @@ module _ (k number : ℕ) (d e : EventSet) (x : d ≡ noEvents) (y : e ≡ marke
     | no n ↦ inl (elsewhere j n)
   ]
 
-  up : (s : Timestamp) → s ∈ (one ∷ []) → s ∈ stampsIn ticks word
+  up : (s : Timestamp) → s isIn (one ∷ []) → s isIn stampsIn ticks word
   up s m = Memᴰ·cast (List·Memᴰ·eq-of-singleton m) (stamps-in ticks word one (rw own small) (ap (noteAt ticks word) own ∙ here))
 
-  down : (s : Timestamp) → s ∈ stampsIn ticks word → s ∈ (one ∷ [])
+  down : (s : Timestamp) → s isIn stampsIn ticks word → s isIn (one ∷ [])
   down s m =
       let (l, e) = stamps-of ticks word s m in
       elim (ℕ-discrete (s .logger) k) [

@@ -8,7 +8,7 @@ use native.Mathlib.Decide.{decLt}
 use native.Mathlib.Omega.{arith}
 use borrow.Author.Tests.{le-ltb, lt-ltb}
 use lib.ListN.{getD, length}
-use Rattle.sequences.specs.Members.{_∈_, SameMembers}
+use Rattle.sequences.specs.Members.{_isIn_, SameMembers}
 use Rattle.sequences.proofs.Booleans.{false-of-not-true, never-both}
 use Rattle.sequences.proofs.Members.{same-sym, same-trans}
 use Rattle.event_sets.specs.declared.EventSet.{EventSet}
@@ -38,7 +38,7 @@ module _ (clocks : Clocks) where
   module _ (v g w h u i : ℕ → ℕ) (k l m : List Timestamp) (a : Seen clocks v g k) (b : Seen clocks w h l) (c : Seen clocks u i m)
       (later : (j : ℕ) → j < 8 → u j ≡ max (v j) (w j)) where
     -- a stamp whose note is not above the later one is there, or before the one that is
-    reach : (s : Timestamp) → s .logger < 8 → s .tick .0 + 1 ≤ u (s .logger) → (s ∈ m) ⊎ ((t : Timestamp) × (t ∈ m) × (R s t ≡ true))
+    reach : (s : Timestamp) → s .logger < 8 → s .tick .0 + 1 ≤ u (s .logger) → (s isIn m) ⊎ ((t : Timestamp) × (t isIn m) × (R s t ≡ true))
     reach s p e = elim (decLt (s .tick .0 + 1) (u (s .logger))) [
       | yes o ↦ inr (stamp (s .logger) (u (s .logger)), c .member (stamp (s .logger) (u (s .logger))) p (omega arith), before-is clocks s (stamp (s .logger) (u (s .logger))) (one-clock refl (omega arith)))
       | no o ↦ inl (c .member s p (omega arith))
@@ -64,11 +64,11 @@ module _ (clocks : Clocks) where
 
   -- ---- those that are not clearly earlier than the highest are before none, and no others
   module _ (u i x : ℕ → ℕ) (m n : List Timestamp) (c : Seen clocks u i m) (h : ℕ) (top : Highest 8 i h)
-      (place : (s : Timestamp) → s ∈ n → s .logger < 8) (local : (s : Timestamp) → s ∈ n → x (s .logger) ≡ s .tick .0 + 1)
-      (member : (s : Timestamp) → s .logger < 8 → x (s .logger) ≡ s .tick .0 + 1 → s ∈ n)
+      (place : (s : Timestamp) → s isIn n → s .logger < 8) (local : (s : Timestamp) → s isIn n → x (s .logger) ≡ s .tick .0 + 1)
+      (member : (s : Timestamp) → s .logger < 8 → x (s .logger) ≡ s .tick .0 + 1 → s isIn n)
       (small : (j : ℕ) → j < 8 → i j < h - 1 → x j ≡ 0) (large : (j : ℕ) → j < 8 → h - 1 ≤ i j → x j ≡ u j) where
     -- one that is kept
-    kept-none : (s : Timestamp) → s ∈ m → h - 1 ≤ i (s .logger) → (t : Timestamp) → t ∈ m → Before clocks s t → ⊥
+    kept-none : (s : Timestamp) → s isIn m → h - 1 ≤ i (s .logger) → (t : Timestamp) → t isIn m → Before clocks s t → ⊥
     kept-none s p f t q (one-clock e l) =
         let y : u (s .logger) ≡ s .tick .0 + 1 = c .local s p in
         let z : u (s .logger) ≡ t .tick .0 + 1 = ap u e ∙ c .local t q in
@@ -80,7 +80,7 @@ module _ (clocks : Clocks) where
         omega arith
 
     -- one that is not
-    gone-before : (s : Timestamp) → s ∈ m → i (s .logger) < h - 1 → (t : Timestamp) × (t ∈ m) × (R s t ≡ true)
+    gone-before : (s : Timestamp) → s isIn m → i (s .logger) < h - 1 → (t : Timestamp) × (t isIn m) × (R s t ≡ true)
     gone-before s p f =
         let y : i (s .logger) ≡ global clocks s + 1 = c .whole s p in
         let (j, o, e) = top .some (omega arith) in
@@ -90,7 +90,7 @@ module _ (clocks : Clocks) where
     pub settled-maxima : SameMembers (maxima R m) n
     settled-maxima = (up, down)
       where
-        up : (s : Timestamp) → s ∈ maxima R m → s ∈ n
+        up : (s : Timestamp) → s isIn maxima R m → s isIn n
         up s p =
             let (q, f) = maxima-of R m s p in
             let y : u (s .logger) ≡ s .tick .0 + 1 = c .local s q in
@@ -99,14 +99,14 @@ module _ (clocks : Clocks) where
               | no l ↦ member s (c .place s q) (large (s .logger) (c .place s q) (omega arith) ∙ y)
             ]
 
-        down : (s : Timestamp) → s ∈ n → s ∈ maxima R m
+        down : (s : Timestamp) → s isIn n → s isIn maxima R m
         down s p =
             let l : s .logger < 8 = place s p in
             let e : x (s .logger) ≡ s .tick .0 + 1 = local s p in
             elim (decLt (i (s .logger)) (h - 1)) [
               | yes o ↦ (let z : x (s .logger) ≡ 0 = small (s .logger) l o in absurd (omega arith))
               | no o ↦ (let z : x (s .logger) ≡ u (s .logger) = large (s .logger) l (omega arith) in
-                  let q : s ∈ m = c .member s l (omega arith) in
+                  let q : s isIn m = c .member s l (omega arith) in
                   maxima-in R m s q (λ t r. false-of-not-true (R s t) (λ y. kept-none s q (omega arith) t r (before-says clocks s t y))))
             ]
 

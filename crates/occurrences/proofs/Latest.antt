@@ -8,7 +8,7 @@ use native.Mathlib.Omega.{arith}
 use lib.ListN.{getD, length}
 use lib.Dec.{eqb}
 use borrow.Author.Tests.{eq-eqb, eqb-true}
-use Rattle.sequences.specs.Members.{_∈_, SameMembers}
+use Rattle.sequences.specs.Members.{_isIn_, SameMembers}
 use Rattle.sequences.proofs.Booleans.{or-cases, or-left, or-right, never-both}
 use Rattle.sequences.proofs.Members.{getD-in, map-in, map-of}
 use Rattle.event_sets.specs.declared.EventSet.{EventSet}
@@ -39,13 +39,13 @@ module _ (clocks : Clocks) (stamps : List Timestamp) (small : Placeable stamps) 
   unfolding stampsAt
   union-stamps a b = (up, down)
     where
-      up : (t : Timestamp) → t ∈ (stampsAt stamps a ++ stampsAt stamps b) → t ∈ stampsAt stamps (unionOf a b)
+      up : (t : Timestamp) → t isIn (stampsAt stamps a ++ stampsAt stamps b) → t isIn stampsAt stamps (unionOf a b)
       up t m = ⊎-elim
           (λ i. let (j, k, e) = map-of (λ j. getD stamps j blankStamp) (elements a) i in Memᴰ·cast e (map-in (λ j. getD stamps j blankStamp) (elements (unionOf a b)) (elements-union a b j .1 (inl k))))
           (λ i. let (j, k, e) = map-of (λ j. getD stamps j blankStamp) (elements b) i in Memᴰ·cast e (map-in (λ j. getD stamps j blankStamp) (elements (unionOf a b)) (elements-union a b j .1 (inr k))))
           (List·Memᴰ·append-cases (stampsAt stamps a) m)
 
-      down : (t : Timestamp) → t ∈ stampsAt stamps (unionOf a b) → t ∈ (stampsAt stamps a ++ stampsAt stamps b)
+      down : (t : Timestamp) → t isIn stampsAt stamps (unionOf a b) → t isIn (stampsAt stamps a ++ stampsAt stamps b)
       down t m =
           let (j, k, e) = map-of (λ j. getD stamps j blankStamp) (elements (unionOf a b)) m in
           ⊎-elim
@@ -89,15 +89,15 @@ module _ (clocks : Clocks) (stamps : List Timestamp) (small : Placeable stamps) 
   unfolding stampsAt
   stamps-none = ap (map (λ j. getD stamps j blankStamp)) elements-none
 
-  parts-cover : (parts : List Occurrence) → ((o : Occurrence) → o ∈ parts → Exact clocks stamps o)
+  parts-cover : (parts : List Occurrence) → ((o : Occurrence) → o isIn parts → Exact clocks stamps o)
       → Covers (before clocks) (stampsOf parts) (stampsAt stamps (eventsOf parts))
   unfolding stampsOf eventsOf
   parts-cover [] h = covers-same (before clocks) (none-up, none-down)
     where
-      none-up : (t : Timestamp) → t ∈ [] → t ∈ stampsAt stamps noEvents
+      none-up : (t : Timestamp) → t isIn [] → t isIn stampsAt stamps noEvents
       none-up t m = absurd (List·Memᴰ·not-nil m)
 
-      none-down : (t : Timestamp) → t ∈ stampsAt stamps noEvents → t ∈ []
+      none-down : (t : Timestamp) → t isIn stampsAt stamps noEvents → t isIn []
       none-down t m = rw stamps-none at m
   parts-cover (o ∷ parts) h =
       covers-trans (before clocks) (before-strict clocks) _ (stampsAt stamps (o .events) ++ stampsAt stamps (eventsOf parts)) _
@@ -108,12 +108,12 @@ module _ (clocks : Clocks) (stamps : List Timestamp) (small : Placeable stamps) 
   unfolding eventsOf
   event-of-first o parts j e = has-union (o .events) (eventsOf parts) j ∙ or-left _ _ e
 
-  events-within : (parts : List Occurrence) → ((p : Occurrence) → p ∈ parts → Exact clocks stamps p) → (j : ℕ) → has (eventsOf parts) j ≡ true → j < length stamps
+  events-within : (parts : List Occurrence) → ((p : Occurrence) → p isIn parts → Exact clocks stamps p) → (j : ℕ) → has (eventsOf parts) j ≡ true → j < length stamps
   unfolding eventsOf
   events-within [] h j e = absurd (never-both e (has-none j))
   events-within (o ∷ parts) h j e = union-within (o .events) (eventsOf parts) (h o (List·Memᴰ·head refl) .within) (events-within parts (λ p m. h p (List·Memᴰ·tail m))) j e
 
-  pub exact-combination : (o : Occurrence) (parts : List Occurrence) → ((p : Occurrence) → p ∈ (o ∷ parts) → Exact clocks stamps p)
+  pub exact-combination : (o : Occurrence) (parts : List Occurrence) → ((p : Occurrence) → p isIn (o ∷ parts) → Exact clocks stamps p)
       → Exact clocks stamps (combinationOf clocks (o ∷ parts))
   unfolding combinationOf
   exact-combination o parts h =

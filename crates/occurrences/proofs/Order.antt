@@ -4,8 +4,8 @@ use mathlib.Core.Bool.{Bool, true, false}
 use mathlib.Core.List.{List}
 use mathlib.Core.Logic.{⊎-elim}
 use Prim.Native.Nat.{ℕ}
-use Rattle.sequences.specs.Members.{_∈_}
-use Rattle.sequences.specs.Select.{any}
+use Rattle.sequences.specs.Members.{_isIn_}
+use Rattle.sequences.specs.Select.{somePasses}
 use Rattle.sequences.proofs.Booleans.{never-both, false-of-not-true}
 use Rattle.sequences.proofs.Select.{any-in, any-of, all-in, all-of}
 use Rattle.timestamps.specs.declared.Timestamp.{Timestamp}
@@ -27,18 +27,18 @@ module _ (clocks : Clocks) where
   after-strict = record { irreflexive = before-irrefl clocks; transitive = λ a b c p q. before-trans clocks c b a q p }
 
   -- timestamps of which there is at least one are not before themselves: the earliest has none before it
-  all-before-itself : (l : List Timestamp) {s : Timestamp} → s ∈ l → allBefore clocks l l ≡ true → ⊥
+  all-before-itself : (l : List Timestamp) {s : Timestamp} → s isIn l → allBefore clocks l l ≡ true → ⊥
   unfolding allBefore
   all-before-itself l {s} m e = ⊎-elim first (λ t. first (t .1)) (maxima-reach after after-strict l s m)
     where
-      first : {t : Timestamp} → t ∈ maxima after l → ⊥
+      first : {t : Timestamp} → t isIn maxima after l → ⊥
       first {t} i =
           let (j, none) = maxima-of after l t i in
-          let (u, k, y) = any-of (λ x. before clocks x t) l (all-of (λ x. any (λ z. before clocks z x) l) l e j) in
+          let (u, k, y) = any-of (λ x. before clocks x t) l (all-of (λ x. somePasses (λ z. before clocks z x) l) l e j) in
           never-both y (none u k)
 
   -- an occurrence with at least one timestamp is not before itself
-  pub not-before-itself : (o : Occurrence) {s : Timestamp} → s ∈ members (o .latest) → isBefore clocks o o ≡ false
+  pub not-before-itself : (o : Occurrence) {s : Timestamp} → s isIn members (o .latest) → isBefore clocks o o ≡ false
   unfolding isBefore
   not-before-itself o m = false-of-not-true _ (all-before-itself (members (o .latest)) m)
 

@@ -4,12 +4,12 @@ use mathlib.Core.List.{List, [], _∷_, _++_, map, map-append, List·Memᴰ·eq-
 use mathlib.Core.Logic.{⊎-elim}
 use Prim.Native.Nat.{ℕ, _<_}
 use lib.ListN.{getD, length, length-map}
-use Rattle.sequences.specs.Members.{_∈_}
+use Rattle.sequences.specs.Members.{_isIn_}
 use Rattle.sequences.proofs.Members.{getD-in}
 use Rattle.sequences.proofs.Parts.{getD-map}
 use Rattle.timestamps.specs.Composite.{members}
 use Rattle.occurrences.specs.declared.Occurrence.{Occurrence}
-use Rattle.occurrences.specs.Occurrences.{blank}
+use Rattle.occurrences.specs.Occurrences.{noOccurrence}
 use Rattle.occurrences.specs.Packed.{Notes, Sound, Stand, Stands, Within, occurrenceOf}
 use Rattle.occurrences.proofs.Seen.{sound-within}
 
@@ -28,9 +28,9 @@ module _ {ticks globals : List ℕ} (t : Notes ticks globals) where
   }
 
   -- what stands at a place
-  pub stand-at : (ps : List (List ℕ)) (l : List Occurrence) (i : ℕ) → Stand t ps l → i < length ps → Stands t (getD ps i []) (getD l i blank)
+  pub stand-at : (ps : List (List ℕ)) (l : List Occurrence) (i : ℕ) → Stand t ps l → i < length ps → Stands t (getD ps i []) (getD l i noOccurrence)
   stand-at ps l i h k = record {
-    same = sym (getD-map (occurrenceOf ticks) ps i [] blank k) ∙ ap (λ m. getD m i blank) (h .same);
+    same = sym (getD-map (occurrenceOf ticks) ps i [] noOccurrence k) ∙ ap (λ m. getD m i noOccurrence) (h .same);
     sound = h .sound (getD ps i []) (getD-in ps i [] k);
   }
 

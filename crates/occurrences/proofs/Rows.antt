@@ -6,7 +6,7 @@ use native.Mathlib.Omega.{arith}
 use lib.ListN.{getD, length, length-take, take}
 use Rattle.sequences.proofs.Arrays.{held-at}
 use Rattle.occurrences.specs.declared.Occurrence.{Occurrence}
-use Rattle.occurrences.specs.Occurrences.{blank}
+use Rattle.occurrences.specs.Occurrences.{noOccurrence}
 use Rattle.occurrences.specs.Packed.{Holds, Notes, Stands, Within}
 use Rattle.occurrences.proofs.Packed.{stand-at, stand-length, stands-within}
 
@@ -18,10 +18,10 @@ module _ {ticks globals : List ℕ} (t : Notes ticks globals) (row : List (List 
   pub holds-most : (m : ℕ) → length row ≡ m → length l ≤ m
   holds-most m e = omega (arith, holds-length, length-take n row, e)
 
-  pub holds-at : (i : ℕ) → i < length l → Stands t (getD row i []) (getD l i blank)
+  pub holds-at : (i : ℕ) → i < length l → Stands t (getD row i []) (getD l i noOccurrence)
   holds-at i k =
       let j : i < length (take n row) = omega (arith, holds-length, k) in
-      subst (λ p. Stands t p (getD l i blank)) (sym (held-at row n i [] j)) (stand-at t (take n row) l i h j)
+      subst (λ p. Stands t p (getD l i noOccurrence)) (sym (held-at row n i [] j)) (stand-at t (take n row) l i h j)
 
   pub holds-within : (i : ℕ) → i < length (take n row) → Within ticks globals (getD row i [])
   holds-within i k = stands-within t _ _ (holds-at i (omega (arith, holds-length, k)))

@@ -6,7 +6,7 @@ use Prim.Native.Nat.{ℕ, _+_, _-_, _≤_, _<_}
 use native.Mathlib.Decide.{ℕ-discrete}
 use native.Mathlib.Omega.{arith}
 use lib.ListN.{getD, length}
-use Rattle.sequences.specs.Members.{_∈_, SameMembers}
+use Rattle.sequences.specs.Members.{_isIn_, SameMembers}
 use Rattle.timestamps.specs.declared.Timestamp.{Timestamp}
 use Rattle.timestamps.specs.Composite.{IsComposite, members}
 use Rattle.timestamps.specs.Order.{Clocks, blank}
@@ -19,10 +19,10 @@ use Rattle.occurrences.proofs.Views.{latest-in, stamp, stamps-in, stamp
 
 -- ---- local notes v and global notes g by logger place, and the stamps l that they tell
 pub record Seen (clocks : Clocks) (v g : ℕ → ℕ) (l : List Timestamp) : Type 0 where
-  pub place : (s : Timestamp) → s ∈ l → s .logger < 8
-  pub local : (s : Timestamp) → s ∈ l → v (s .logger) ≡ s .tick .0 + 1
-  pub whole : (s : Timestamp) → s ∈ l → g (s .logger) ≡ global clocks s + 1
-  pub member : (s : Timestamp) → s .logger < 8 → v (s .logger) ≡ s .tick .0 + 1 → s ∈ l
+  pub place : (s : Timestamp) → s isIn l → s .logger < 8
+  pub local : (s : Timestamp) → s isIn l → v (s .logger) ≡ s .tick .0 + 1
+  pub whole : (s : Timestamp) → s isIn l → g (s .logger) ≡ global clocks s + 1
+  pub member : (s : Timestamp) → s .logger < 8 → v (s .logger) ≡ s .tick .0 + 1 → s isIn l
   pub none : (k : ℕ) → k < 8 → v k ≡ 0 → g k ≡ 0
 
 -- the same stamps in whatever order
@@ -78,7 +78,7 @@ module _ {ticks globals : List ℕ} (t : Notes ticks globals) where
 
 -- ---- the stamp at a place that has one, and the lowest
 module _ (clocks : Clocks) (v g : ℕ → ℕ) (l : List Timestamp) (seen : Seen clocks v g l) where
-  pub stamp-at : (k : ℕ) → k < 8 → 0 < v k → stamp k (v k) ∈ l
+  pub stamp-at : (k : ℕ) → k < 8 → 0 < v k → stamp k (v k) isIn l
   stamp-at k h p = seen .member (stamp k (v k)) h (omega arith)
 
   pub note-both : (k : ℕ) → k < 8 → 0 < g k → 0 < v k
@@ -91,19 +91,19 @@ module _ (clocks : Clocks) (v g : ℕ → ℕ) (l : List Timestamp) (seen : Seen
   note-global k h p = let e : g k ≡ global clocks (stamp k (v k)) + 1 = seen .whole (stamp k (v k)) (stamp-at k h p) in omega arith
 
   -- also where it is there by its global note
-  pub stamp-told : (k : ℕ) → k < 8 → 0 < g k → (s : Timestamp) × (s ∈ l) × (s .logger ≡ k) × (global clocks s + 1 ≡ g k)
+  pub stamp-told : (k : ℕ) → k < 8 → 0 < g k → (s : Timestamp) × (s isIn l) × (s .logger ≡ k) × (global clocks s + 1 ≡ g k)
   stamp-told k h p =
-      let i : stamp k (v k) ∈ l = stamp-at k h (note-both k h p) in
+      let i : stamp k (v k) isIn l = stamp-at k h (note-both k h p) in
       (stamp k (v k), i, refl, sym (seen .whole (stamp k (v k)) i))
 
   module _ (low : ℕ) (least : Lowest 8 g low) where
-    pub lowest-le : (s : Timestamp) → s ∈ l → low ≤ global clocks s
+    pub lowest-le : (s : Timestamp) → s isIn l → low ≤ global clocks s
     lowest-le s i =
         let e : g (s .logger) ≡ global clocks s + 1 = seen .whole s i in
         let h : low < g (s .logger) = least .least (s .logger) (seen .place s i) (omega arith) in
         omega arith
 
-    pub lowest-is : (s : Timestamp) → s ∈ l → (t : Timestamp) × (t ∈ l) × (global clocks t ≡ low)
+    pub lowest-is : (s : Timestamp) → s isIn l → (t : Timestamp) × (t isIn l) × (global clocks t ≡ low)
     lowest-is s i = ⊎-elim
         (λ (z, d). absurd (let e : g (s .logger) ≡ global clocks s + 1 = seen .whole s i in let y : g (s .logger) ≡ 0 = z (s .logger) (seen .place s i) in omega arith))
         (λ (k, h, e). let (t, j, a, b) = stamp-told k h (omega arith) in (t, j, omega arith))

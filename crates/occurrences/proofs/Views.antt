@@ -8,8 +8,8 @@ use native.Mathlib.Omega.{arith}
 use lib.Dec.{ltb}
 use lib.ListN.{getD}
 use borrow.Author.Tests.{eq-eqb, eqb-true, lt-ltb, ltb-false, ltb-true}
-use Rattle.sequences.specs.Members.{_∈_}
-use Rattle.sequences.specs.Select.{any}
+use Rattle.sequences.specs.Members.{_isIn_}
+use Rattle.sequences.specs.Select.{somePasses}
 use Rattle.sequences.proofs.Booleans.{either-way, same-test}
 use Rattle.sequences.proofs.Select.{any-in, any-of}
 use Rattle.timestamps.specs.declared.CompositeTimestamp.{CompositeTimestamp}
@@ -42,10 +42,10 @@ module _ (ticks : List ℕ) (w : ℕ) where
   abbrev words : List ℕ
   words = wordsOf ticks (0 ∷ 0 ∷ w ∷ [])
 
-  pub stamps-of : (s : Timestamp) → s ∈ stampsIn ticks w → (s .logger < 8) × (noteAt ticks w (s .logger) ≡ s .tick .0 + 1)
+  pub stamps-of : (s : Timestamp) → s isIn stampsIn ticks w → (s .logger < 8) × (noteAt ticks w (s .logger) ≡ s .tick .0 + 1)
   stamps-of s m = let (l, e) = member-word words s m in (l, sym (word-of ticks (0 ∷ 0 ∷ w ∷ []) (s .logger) l) ∙ e)
 
-  pub stamps-in : (s : Timestamp) → s .logger < 8 → noteAt ticks w (s .logger) ≡ s .tick .0 + 1 → s ∈ stampsIn ticks w
+  pub stamps-in : (s : Timestamp) → s .logger < 8 → noteAt ticks w (s .logger) ≡ s .tick .0 + 1 → s isIn stampsIn ticks w
   stamps-in s l e = word-member words s l (word-of ticks (0 ∷ 0 ∷ w ∷ []) (s .logger) l ∙ e)
 
   -- ---- at most one of each logger; the composite of these stamps is the one that is named
@@ -56,10 +56,10 @@ module _ (ticks : List ℕ) (w : ℕ) where
       let z : noteAt ticks w (s .logger) ≡ noteAt ticks w (t .logger) = ap (noteAt ticks w) e in
       same-stamp s t e (omega arith)
 
-  here : (k : ℕ) → k < 8 → ltb 0 (noteAt ticks w k) ≡ true → stamp k (noteAt ticks w k) ∈ stampsIn ticks w
+  here : (k : ℕ) → k < 8 → ltb 0 (noteAt ticks w k) ≡ true → stamp k (noteAt ticks w k) isIn stampsIn ticks w
   here k h e = let p : 0 < noteAt ticks w k = ltb-true 0 (noteAt ticks w k) e in stamps-in (stamp k (noteAt ticks w k)) h (omega arith)
 
-  present : (k : ℕ) → k < 8 → any (ofLogger k) (stampsIn ticks w) ≡ ltb 0 (noteAt ticks w k)
+  present : (k : ℕ) → k < 8 → somePasses (ofLogger k) (stampsIn ticks w) ≡ ltb 0 (noteAt ticks w k)
   present k h = same-test _ _
       (λ e. let (s, i, y) = any-of (ofLogger k) (stampsIn ticks w) e in
       let (l, x) = stamps-of s i in
@@ -77,6 +77,6 @@ module _ (ticks : List ℕ) (w : ℕ) where
 
   pub view-is : compositeIn ticks w ≡ compositeOf (stampsIn ticks w)
   unfolding compositeOf
-  view-is = latest-places words (λ k. any (ofLogger k) (stampsIn ticks w)) (tickOf (stampsIn ticks w)) (length-words ticks (0 ∷ 0 ∷ w ∷ []))
+  view-is = latest-places words (λ k. somePasses (ofLogger k) (stampsIn ticks w)) (tickOf (stampsIn ticks w)) (length-words ticks (0 ∷ 0 ∷ w ∷ []))
       (λ k l. ap (ltb 0) (word-of ticks (0 ∷ 0 ∷ w ∷ []) k l) ∙ sym (present k l))
       (λ k l. (let e = word-of ticks (0 ∷ 0 ∷ w ∷ []) k l in λ i. record { 0 = e i - 1 }) ∙ sym (told k l))

@@ -8,7 +8,7 @@ use lib.Dec.{ltb}
 use lib.ListN.{drop, getD, length, length-drop, length-map, List·getD-map}
 use lib.Seq.{ext-getD, getD-drop}
 use borrow.Author.Tests.{lt-ltb, ltb-true}
-use Rattle.sequences.specs.Members.{_∈_}
+use Rattle.sequences.specs.Members.{_isIn_}
 use Rattle.sequences.proofs.Range.{length-range}
 use Rattle.timestamps.specs.declared.CompositeTimestamp.{CompositeTimestamp}
 use Rattle.timestamps.specs.declared.LocalTick.{LocalTick}
@@ -40,14 +40,14 @@ module _ (w : List ℕ) where
   tick-at k = List·getD-map tickOf (drop 2 w) k 0 ∙ ap tickOf (getD-drop 2 w k 0)
 
   -- the timestamps
-  pub member-word : (s : Timestamp) → s ∈ members (latestOf w) → (s .logger < 8) × (wordAt w (s .logger) ≡ s .tick .0 + 1)
+  pub member-word : (s : Timestamp) → s isIn members (latestOf w) → (s .logger < 8) × (wordAt w (s .logger) ≡ s .tick .0 + 1)
   member-word s m =
       let h : Holds (latestOf w) s = members-of (latestOf w) s m in
       let p : 0 < wordAt w (s .logger) = ltb-true 0 (wordAt w (s .logger)) (sym (present-at (s .logger)) ∙ h .there) in
       let t : wordAt w (s .logger) - 1 ≡ s .tick .0 = ap (λ (x : LocalTick). x .0) (sym (tick-at (s .logger)) ∙ h .tick) in
       (h .place, omega arith)
 
-  pub word-member : (s : Timestamp) → s .logger < 8 → wordAt w (s .logger) ≡ s .tick .0 + 1 → s ∈ members (latestOf w)
+  pub word-member : (s : Timestamp) → s .logger < 8 → wordAt w (s .logger) ≡ s .tick .0 + 1 → s isIn members (latestOf w)
   word-member s l e =
       let t : wordAt w (s .logger) - 1 ≡ s .tick .0 = omega arith in
       members-in (latestOf w) s (record {

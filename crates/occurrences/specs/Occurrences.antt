@@ -5,7 +5,7 @@ use Prim.Native.Nat.{ℕ}
 use Rattle.event_sets.specs.Sets.{markedWith, noEvents}
 use Rattle.timestamps.specs.declared.Timestamp.{Timestamp}
 use Rattle.timestamps.specs.Comparison.{allBefore}
-use Rattle.timestamps.specs.Composite.{compositeOf, members, noTimestamps}
+use Rattle.timestamps.specs.Composite.{compositeOf, members}
 use Rattle.timestamps.specs.Order.{Clocks}
 use Rattle.occurrences.specs.declared.Occurrence.{Occurrence}
 
@@ -17,10 +17,6 @@ ofEvent s number = record { latest = compositeOf (s ∷ []); events = markedWith
 unfoldable pub isBefore : Clocks → Occurrence → Occurrence → Bool
 isBefore clocks a b = allBefore clocks (members (a .latest)) (members (b .latest))
 
--- what stands in a place where there is no occurrence
+-- what a list of occurrences is read as past its end
 abbrev pub noOccurrence : Occurrence
-noOccurrence = record { latest = noTimestamps; events = noEvents }
-
--- what an array of occurrences is read as past its end
-abbrev pub blank : Occurrence
-blank = record { latest = record { present = []; ticks = [] }; events = noEvents }
+noOccurrence = record { latest = record { present = []; ticks = [] }; events = noEvents }

@@ -6,7 +6,7 @@ use mathlib.Core.Path.{_≡_}
 use Prim.Native.Nat.{ℕ, _+_, _-_, _*_, _/_, _%_, _^_, _<_}
 use lib.Dec.{ltb}
 use lib.ListN.{drop, getD, length, take}
-use Rattle.sequences.specs.Members.{_∈_}
+use Rattle.sequences.specs.Members.{_isIn_}
 use Rattle.timestamps.specs.declared.Timestamp.{Timestamp}
 use Rattle.timestamps.specs.Composite.{IsComposite, loggerPlaces, members}
 use Rattle.timestamps.specs.Order.{Clocks, blank, globalOf}
@@ -62,7 +62,7 @@ pub record Stands {ticks globals : List ℕ} (t : Notes ticks globals) (p : List
 -- those of a list stand for the occurrences l, in order
 pub record Stand {ticks globals : List ℕ} (t : Notes ticks globals) (ps : List (List ℕ)) (l : List Occurrence) : Type 0 where
   pub same : map (occurrenceOf ticks) ps ≡ l
-  pub sound : (p : List ℕ) → p ∈ ps → Sound t p
+  pub sound : (p : List ℕ) → p isIn ps → Sound t p
 
 -- the first n of a row hold the occurrences l
 abbrev pub Holds : {ticks globals : List ℕ} (t : Notes ticks globals) (row : List (List ℕ)) → ℕ → List Occurrence → Type 0

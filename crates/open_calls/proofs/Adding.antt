@@ -11,8 +11,8 @@ use lib.ListN.{length, length-set, set}
 use lib.Seq.{getD-set-other, getD-set-same}
 use borrow.Author.Tests.{lt-ltb, ltb-false, ltb-true}
 use Rattle.sequences.specs.Choice.{pick}
-use Rattle.sequences.specs.Members.{_∈_}
-use Rattle.sequences.specs.Select.{all}
+use Rattle.sequences.specs.Members.{_isIn_}
+use Rattle.sequences.specs.Select.{eachPasses}
 use Rattle.sequences.proofs.Booleans.{either-way, false-of-not-true, never-both}
 use Rattle.sequences.proofs.Members.{same-refl}
 use Rattle.timestamps.specs.declared.CompositeTimestamp.{CompositeTimestamp}
@@ -25,10 +25,10 @@ use Rattle.timestamps.proofs.Groupings.{valid-place, valid-placeable}
 use Rattle.timestamps.proofs.Join.{Placeable, joinOf-covered, joinOf-covers, members-joinOf, members-placeable}
 use Rattle.timestamps.proofs.Maxima.{covers-append, covers-same, maxima-in, maxima-of}
 use Rattle.timestamps.proofs.Order.{before-irrefl, before-one, before-other, clear-before, global-le}
-use Rattle.open_calls.specs.Notes.{Highest, Noted, RoomFor, clearAt, clearNote, globalNote, localNote, noteAt}
+use Rattle.open_calls.specs.Notes.{HighestNote, NotedJoin, RoomFor, clearAt, clearNote, globalNote, localNote, noteAt}
 use Rattle.open_calls.proofs.Notes.{clear-notes, local-member, member-global, member-local, none-at, noted-by, some-at}
 
-module _ (clocks : Clocks) (l : List Timestamp) (v : all valid l ≡ true) (s : Timestamp) (w : valid s ≡ true) where
+module _ (clocks : Clocks) (l : List Timestamp) (v : eachPasses valid l ≡ true) (s : Timestamp) (w : valid s ≡ true) where
   -- the join, and the join with s
   abbrev old : CompositeTimestamp
   old = joinOf clocks l
@@ -40,7 +40,7 @@ module _ (clocks : Clocks) (l : List Timestamp) (v : all valid l ≡ true) (s : 
   both = members old ++ (s ∷ [])
 
   -- ---- members
-  apart : (t u : Timestamp) → t ∈ members old → u ∈ members old → before clocks t u ≡ false
+  apart : (t u : Timestamp) → t isIn members old → u isIn members old → before clocks t u ≡ false
   apart t u i j =
       let p = members-joinOf clocks l (valid-placeable l v) in
       maxima-of (before clocks) l t (p .0 t i) .1 u (maxima-of (before clocks) l u (p .0 u j) .0)
@@ -52,26 +52,26 @@ module _ (clocks : Clocks) (l : List Timestamp) (v : all valid l ≡ true) (s : 
   placeable : Placeable both
   placeable t m = ⊎-elim (members-placeable old t) (λ i. rw (is-s i) (valid-place s w)) (List·Memᴰ·append-cases (members old) m)
     where
-      is-s : t ∈ (s ∷ []) → t ≡ s
+      is-s : t isIn (s ∷ []) → t ≡ s
       is-s i = List·Memᴰ·eq-of-singleton i
 
   -- a member of the new join is one of the old or s, and before none of them
-  new-of : (t : Timestamp) → t ∈ members new → ((t ∈ members old) ⊎ (t ≡ s)) × (before clocks t s ≡ false)
+  new-of : (t : Timestamp) → t isIn members new → ((t isIn members old) ⊎ (t ≡ s)) × (before clocks t s ≡ false)
   new-of t m =
       let (i, h) = maxima-of (before clocks) both t (members-joinOf clocks both placeable .0 t (rw join-both m)) in (
         ⊎-elim (λ j. inl j) (λ j. inr (List·Memᴰ·eq-of-singleton j)) (List·Memᴰ·append-cases (members old) i),
         h s (Memᴰ·append-right (members old) (List·Memᴰ·head refl)),
       )
 
-  new-in : (t : Timestamp) → t ∈ both → ((u : Timestamp) → u ∈ members old → before clocks t u ≡ false) → before clocks t s ≡ false → t ∈ members new
+  new-in : (t : Timestamp) → t isIn both → ((u : Timestamp) → u isIn members old → before clocks t u ≡ false) → before clocks t s ≡ false → t isIn members new
   new-in t m h b = rw join-both at (members-joinOf clocks both placeable .1 t (maxima-in (before clocks) both t m (λ u i.
       ⊎-elim (h u) (λ j. ap (before clocks t) (List·Memᴰ·eq-of-singleton j) ∙ b) (List·Memᴰ·append-cases (members old) i))))
 
-  stays : (t : Timestamp) → t ∈ members old → before clocks t s ≡ false → t ∈ members new
+  stays : (t : Timestamp) → t isIn members old → before clocks t s ≡ false → t isIn members new
   stays t m b = new-in t (Memᴰ·append-left (s ∷ []) m) (λ u i. apart t u m i) b
 
   -- one that is in the join already, or before one of it, changes nothing
-  kept : (s ∈ members old) ⊎ ((u : Timestamp) × (u ∈ members old) × (before clocks s u ≡ true)) → old ≡ new
+  kept : (s isIn members old) ⊎ ((u : Timestamp) × (u isIn members old) × (before clocks s u ≡ true)) → old ≡ new
   kept r =
       sym (joinOf-covered clocks (members old) l (joinOf-covers clocks l (valid-placeable l v)))
       ∙ joinOf-covered clocks (members old) both (record {
@@ -81,16 +81,16 @@ module _ (clocks : Clocks) (l : List Timestamp) (v : all valid l ≡ true) (s : 
       ∙ join-both
 
   -- ---- notes
-  module _ (notes : List ℕ) (n : Noted clocks old notes) where
+  module _ (notes : List ℕ) (n : NotedJoin clocks old notes) where
     here : s .logger < 8
     here = valid-place s w
 
     -- no later than what its logger has
-    pub added-late : localNote s ≤ noteAt notes (s .logger) → Noted clocks new notes
+    pub added-late : localNote s ≤ noteAt notes (s .logger) → NotedJoin clocks new notes
     added-late h =
         let y : presentAt old (s .logger) ≡ true = some-at clocks old notes n (s .logger) here (omega arith) in
         let t : Timestamp = stampAt old (s .logger) in
-        let m : t ∈ members old = stamp-in old (s .logger) here y in
+        let m : t isIn members old = stamp-in old (s .logger) here y in
         let e : noteAt notes (s .logger) ≡ localNote t = member-local clocks old notes n t m in
         rw (← kept (elim (ℕ-discrete (s .tick .0) (t .tick .0)) [
           | yes q ↦ inl (Memᴰ·cast (same-stamp s t refl q) m)
@@ -98,7 +98,7 @@ module _ (clocks : Clocks) (l : List Timestamp) (v : all valid l ≡ true) (s : 
         ])) n
 
     -- clearly earlier than the highest
-    pub added-clear : clearNote (globalNote clocks s) (noteAt notes 16) ≡ true → Noted clocks new notes
+    pub added-clear : clearNote (globalNote clocks s) (noteAt notes 16) ≡ true → NotedJoin clocks new notes
     unfolding clearlyEarlier
     added-clear c =
         let h : globalNote clocks s + 1 < noteAt notes 16 = ltb-true _ _ c in
@@ -111,7 +111,7 @@ module _ (clocks : Clocks) (l : List Timestamp) (v : all valid l ≡ true) (s : 
       abbrev g : ℕ
       g = globalNote clocks s
 
-      clear-is : (t : Timestamp) → t ∈ members old → (t .logger ≡ s .logger → ⊥) → clearAt notes (t .logger) g ≡ before clocks t s
+      clear-is : (t : Timestamp) → t isIn members old → (t .logger ≡ s .logger → ⊥) → clearAt notes (t .logger) g ≡ before clocks t s
       clear-is t m d =
           ap (λ x. clearNote x g) (member-global clocks old notes n t m)
           ∙ clear-notes (globalOf clocks t .0) (globalOf clocks s .0)
@@ -121,7 +121,7 @@ module _ (clocks : Clocks) (l : List Timestamp) (v : all valid l ≡ true) (s : 
       none-clear : g ≤ noteAt notes 16 → (k : ℕ) → k < 8 → clearAt notes k g ≡ true → presentAt old k ≡ false
       unfolding clearlyEarlier
       none-clear h k b c = false-of-not-true (presentAt old k) (λ y.
-          let m : stampAt old k ∈ members old = stamp-in old k b y in
+          let m : stampAt old k isIn members old = stamp-in old k b y in
           let e : noteAt notes (8 + k) ≡ globalNote clocks (stampAt old k) = member-global clocks old notes n (stampAt old k) m in
           let f : noteAt notes (8 + k) + 1 < g = ltb-true _ _ c in
           let (u, i, q) = n .highest .some (omega arith) in
@@ -177,7 +177,7 @@ module _ (clocks : Clocks) (l : List Timestamp) (v : all valid l ≡ true) (s : 
       put-global k d = put-other (8 + k) (λ e. omega (arith, e, here)) (λ e. d (omega (arith, e)))
 
       -- s is before none
-      s-later : (u : Timestamp) → u ∈ members old → before clocks s u ≡ true → ⊥
+      s-later : (u : Timestamp) → u isIn members old → before clocks s u ≡ true → ⊥
       unfolding clearlyEarlier
       s-later u m b =
           let e : noteAt notes (u .logger) ≡ localNote u = member-local clocks old notes n u m in
@@ -189,28 +189,28 @@ module _ (clocks : Clocks) (l : List Timestamp) (v : all valid l ≡ true) (s : 
                 let k : noteAt notes 16 ≤ g + 1 = ltb-false _ _ high in omega arith)
           ]
 
-      s-new : s ∈ members new
+      s-new : s isIn members new
       s-new = new-in s (Memᴰ·append-right (members old) (List·Memᴰ·head refl)) (λ u m. false-of-not-true (before clocks s u) (s-later u m)) (before-irrefl clocks s)
 
       -- what its logger had is before s
-      s-after : (t : Timestamp) → t ∈ members old → t .logger ≡ s .logger → before clocks t s ≡ true
+      s-after : (t : Timestamp) → t isIn members old → t .logger ≡ s .logger → before clocks t s ≡ true
       s-after t m q =
           let e : noteAt notes (t .logger) ≡ localNote t = member-local clocks old notes n t m in
           let f : noteAt notes (t .logger) ≡ noteAt notes (s .logger) = ap (noteAt notes) q in
           before-one clocks t s q ∙ lt-ltb (t .tick .0) (s .tick .0) (omega arith)
 
-      in-it : (t : Timestamp) → t .logger < 8 → noteAt put (t .logger) ≡ localNote t → t ∈ members new
+      in-it : (t : Timestamp) → t .logger < 8 → noteAt put (t .logger) ≡ localNote t → t isIn members new
       in-it t b e = elim (ℕ-discrete (t .logger) (s .logger)) [
         | yes q ↦ (let f : localNote s ≡ localNote t = sym (put-here .0) ∙ ap (noteAt put) (sym q) ∙ e in Memᴰ·cast (same-stamp t s q (omega arith)) s-new)
         | no d ↦ (let f : noteAt after (t .logger) ≡ localNote t = sym (put-local (t .logger) b d) ∙ e in ⊎-elim
             (λ c. absurd (let z : noteAt after (t .logger) ≡ 0 = rw c at (cleared (t .logger) b .0) in omega arith))
             (λ c. let k : noteAt after (t .logger) ≡ noteAt notes (t .logger) = rw c at (cleared (t .logger) b .0) in
-            let m : t ∈ members old = local-member clocks old notes n t b (sym k ∙ f) in
+            let m : t isIn members old = local-member clocks old notes n t b (sym k ∙ f) in
             stays t m (sym (clear-is t m d) ∙ c))
             (either-way (clearAt notes (t .logger) g)))
       ]
 
-      kept-note : (t : Timestamp) → t ∈ members old → before clocks t s ≡ false
+      kept-note : (t : Timestamp) → t isIn members old → before clocks t s ≡ false
           → (noteAt put (t .logger) ≡ localNote t) × (noteAt put (8 + t .logger) ≡ globalNote clocks t)
       kept-note t m b =
           let d : t .logger ≡ s .logger → ⊥ = λ q. never-both (s-after t m q) b in
@@ -220,7 +220,7 @@ module _ (clocks : Clocks) (l : List Timestamp) (v : all valid l ≡ true) (s : 
             put-global (t .logger) d ∙ (rw c at (cleared (t .logger) h .1)) ∙ member-global clocks old notes n t m,
           )
 
-      of-it : (t : Timestamp) → t ∈ members new → (noteAt put (t .logger) ≡ localNote t) × (noteAt put (8 + t .logger) ≡ globalNote clocks t)
+      of-it : (t : Timestamp) → t isIn members new → (noteAt put (t .logger) ≡ localNote t) × (noteAt put (8 + t .logger) ≡ globalNote clocks t)
       of-it t m =
           let (r, b) = new-of t m in
           ⊎-elim (λ i. kept-note t i b) (λ (e : t ≡ s). rw e put-here) r
@@ -235,7 +235,7 @@ module _ (clocks : Clocks) (l : List Timestamp) (v : all valid l ≡ true) (s : 
             (either-way (clearAt notes k g))
       ]
 
-      highest : Highest clocks new (noteAt put 16)
+      highest : HighestNote clocks new (noteAt put 16)
       unfolding clearlyEarlier
       highest = rw (put-other 16 (λ e. omega (arith, e, here)) (λ e. omega (arith, e, here))) (record {
         most = λ t m. ⊎-elim
@@ -245,8 +245,8 @@ module _ (clocks : Clocks) (l : List Timestamp) (v : all valid l ≡ true) (s : 
         some = λ p. ⊎-elim (λ e. (s, s-new, sym e)) (λ q. still (q .0) (q .1) (n .highest .some (omega (arith, q .1)))) (top .2);
       })
         where
-          still : noteAt after 16 ≡ noteAt notes 16 → g < noteAt notes 16 → (u : Timestamp) × (u ∈ members old) × (globalNote clocks u ≡ noteAt notes 16)
-              → (u : Timestamp) × (u ∈ members new) × (globalNote clocks u ≡ noteAt after 16)
+          still : noteAt after 16 ≡ noteAt notes 16 → g < noteAt notes 16 → (u : Timestamp) × (u isIn members old) × (globalNote clocks u ≡ noteAt notes 16)
+              → (u : Timestamp) × (u isIn members new) × (globalNote clocks u ≡ noteAt after 16)
           still e h (u, m, f) = (
             u,
             stays u m (false-of-not-true (before clocks u s) (λ b. elim (ℕ-discrete (u .logger) (s .logger)) [
@@ -257,19 +257,19 @@ module _ (clocks : Clocks) (l : List Timestamp) (v : all valid l ≡ true) (s : 
             f ∙ sym e,
           )
 
-      pub added-put : Noted clocks new put
+      pub added-put : NotedJoin clocks new put
       added-put = noted-by clocks new put in-it of-it none
           (length-set (set after (s .logger) (localNote s)) (8 + s .logger) g ∙ length-set after (s .logger) (localNote s) ∙ size) highest
 
     -- ---- as the code tells it
-    pub late-told : (note : ℕ) → note ≡ localNote s → ltb (noteAt notes (s .logger)) note ≡ false → Noted clocks new notes
+    pub late-told : (note : ℕ) → note ≡ localNote s → ltb (noteAt notes (s .logger)) note ≡ false → NotedJoin clocks new notes
     late-told note e h = added-late (let l : note ≤ noteAt notes (s .logger) = ltb-false _ _ h in omega arith)
 
-    pub clear-told : (g : ℕ) → g ≡ globalNote clocks s → clearNote g (noteAt notes 16) ≡ true → Noted clocks new notes
+    pub clear-told : (g : ℕ) → g ≡ globalNote clocks s → clearNote g (noteAt notes 16) ≡ true → NotedJoin clocks new notes
     clear-told g e h = added-clear (rw e at h)
 
     pub put-told : (note g : ℕ) → note ≡ localNote s → g ≡ globalNote clocks s → ltb (noteAt notes (s .logger)) note ≡ true
         → clearNote g (noteAt notes 16) ≡ false
-        → (after : List ℕ) → (length notes ≡ 17 → RoomFor notes g after) → Noted clocks new (set (set after (s .logger) note) (8 + s .logger) g)
+        → (after : List ℕ) → (length notes ≡ 17 → RoomFor notes g after) → NotedJoin clocks new (set (set after (s .logger) note) (8 + s .logger) g)
     put-told note g e f h c after room =
         rw (e, f) (added-put after (rw f at (room (n .size))) (let l : noteAt notes (s .logger) < note = ltb-true _ _ h in omega arith) (rw f at c))

@@ -9,7 +9,7 @@ use native.Mathlib.Omega.{arith}
 use lib.Dec.{lit<}
 use lib.ListN.{length}
 use borrow.Author.Tests.{le-ltb, lt-ltb}
-use Rattle.sequences.specs.Members.{_∈_}
+use Rattle.sequences.specs.Members.{_isIn_}
 use Rattle.sequences.proofs.Booleans.{either-way, never-both}
 use Rattle.timestamps.specs.declared.CompositeTimestamp.{CompositeTimestamp}
 use Rattle.timestamps.specs.declared.GlobalTick.{GlobalTick}
@@ -21,7 +21,7 @@ use Rattle.timestamps.proofs.Composite.{Holds, each-place, members-of, same-sta
 use Rattle.timestamps.proofs.Groupings.{valid-tick}
 use Rattle.timestamps.proofs.Order.{global-small}
 use Rattle.open_calls.specs.Answers.{shown, shownAt}
-use Rattle.open_calls.specs.Notes.{Highest, Noted, clearNote, globalNote, localNote, noteAt, shownFrom, shownNote}
+use Rattle.open_calls.specs.Notes.{HighestNote, NotedJoin, clearNote, globalNote, localNote, noteAt, shownFrom, shownNote}
 
 -- ---- a note has room
 pub note-room : (s : Timestamp) → valid s ≡ true → localNote s < 18446744073709551615
@@ -51,7 +51,7 @@ clear-notes a b = elim (decLt (a + 1) b) [
 abbrev stamped : ℕ → ℕ → Timestamp
 stamped k note = record { logger = k; tick = record { 0 = note - 1 } }
 
-module _ (clocks : Clocks) (c : CompositeTimestamp) (notes : List ℕ) (n : Noted clocks c notes) where
+module _ (clocks : Clocks) (c : CompositeTimestamp) (notes : List ℕ) (n : NotedJoin clocks c notes) where
   -- no note, no timestamp
   pub none-at : (k : ℕ) → k < 8 → noteAt notes k ≡ 0 → presentAt c k ≡ false
   none-at k h z = ⊎-elim (λ y. absurd (let e : noteAt notes k ≡ localNote (stampAt c k) = rw y at (n .local k h) in omega arith)) (λ y. y) (either-way (presentAt c k))
@@ -59,19 +59,19 @@ module _ (clocks : Clocks) (c : CompositeTimestamp) (notes : List ℕ) (n : Note
   pub some-at : (k : ℕ) → k < 8 → 0 < noteAt notes k → presentAt c k ≡ true
   some-at k h p = ⊎-elim (λ y. y) (λ y. absurd (let e : noteAt notes k ≡ 0 = rw y at (n .local k h) in omega arith)) (either-way (presentAt c k))
 
-  pub member-local : (s : Timestamp) → s ∈ members c → noteAt notes (s .logger) ≡ localNote s
+  pub member-local : (s : Timestamp) → s isIn members c → noteAt notes (s .logger) ≡ localNote s
   member-local s m =
       let h : Holds c s = members-of c s m in
       let e : noteAt notes (s .logger) ≡ localNote (stampAt c (s .logger)) = rw (h .there) at (n .local (s .logger) (h .place)) in
       e ∙ ap (λ (x : LocalTick). x .0 + 1) (h .tick)
 
-  pub member-global : (s : Timestamp) → s ∈ members c → noteAt notes (8 + s .logger) ≡ globalNote clocks s
+  pub member-global : (s : Timestamp) → s isIn members c → noteAt notes (8 + s .logger) ≡ globalNote clocks s
   member-global s m =
       let h : Holds c s = members-of c s m in
       let e : noteAt notes (8 + s .logger) ≡ globalNote clocks (stampAt c (s .logger)) = rw (h .there) at (n .global (s .logger) (h .place)) in
       e ∙ ap (globalNote clocks) (same-stamp (stampAt c (s .logger)) s refl (ap (λ (x : LocalTick). x .0) (h .tick)))
 
-  pub local-member : (s : Timestamp) → s .logger < 8 → noteAt notes (s .logger) ≡ localNote s → s ∈ members c
+  pub local-member : (s : Timestamp) → s .logger < 8 → noteAt notes (s .logger) ≡ localNote s → s isIn members c
   local-member s h e =
       let y : presentAt c (s .logger) ≡ true = some-at (s .logger) h (omega arith) in
       let f : noteAt notes (s .logger) ≡ localNote (stampAt c (s .logger)) = rw y at (n .local (s .logger) h) in
@@ -89,8 +89,8 @@ module _ (clocks : Clocks) (c : CompositeTimestamp) (notes : List ℕ) (n : Note
 
 -- notes that are right of each timestamp
 module _ (clocks : Clocks) (c : CompositeTimestamp) (notes : List ℕ)
-    (in-it : (s : Timestamp) → s .logger < 8 → noteAt notes (s .logger) ≡ localNote s → s ∈ members c)
-    (of-it : (s : Timestamp) → s ∈ members c → (noteAt notes (s .logger) ≡ localNote s) × (noteAt notes (8 + s .logger) ≡ globalNote clocks s))
+    (in-it : (s : Timestamp) → s .logger < 8 → noteAt notes (s .logger) ≡ localNote s → s isIn members c)
+    (of-it : (s : Timestamp) → s isIn members c → (noteAt notes (s .logger) ≡ localNote s) × (noteAt notes (8 + s .logger) ≡ globalNote clocks s))
     (none : (k : ℕ) → k < 8 → noteAt notes k ≡ 0 → noteAt notes (8 + k) ≡ 0) where
   zero-at : (k : ℕ) → k < 8 → presentAt c k ≡ false → noteAt notes k ≡ 0
   zero-at k h z = elim (decLt 0 (noteAt notes k)) [
@@ -98,7 +98,7 @@ module _ (clocks : Clocks) (c : CompositeTimestamp) (notes : List ℕ)
     | no p ↦ omega arith
   ]
 
-  pub noted-by : length notes ≡ 17 → Highest clocks c (noteAt notes 16) → Noted clocks c notes
+  pub noted-by : length notes ≡ 17 → HighestNote clocks c (noteAt notes 16) → NotedJoin clocks c notes
   noted-by size top = record {
     size = size;
     local = λ k h. ⊎-elim (λ y. rw y (of-it (stampAt c k) (stamp-in c k h y) .0)) (λ z. rw z (zero-at k h z)) (either-way (presentAt c k));

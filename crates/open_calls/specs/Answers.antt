@@ -5,7 +5,7 @@ use Prim.Native.Nat.{ℕ, suc}
 use lib.Dec.{leb, ltb}
 use lib.ListN.{length, replicate}
 use Rattle.sequences.specs.Choice.{pick}
-use Rattle.sequences.specs.Select.{all}
+use Rattle.sequences.specs.Select.{eachPasses}
 use Rattle.timestamps.specs.declared.Timestamp.{Timestamp}
 use Rattle.timestamps.specs.declared.CompositeTimestamp.{CompositeTimestamp}
 use Rattle.timestamps.specs.Composite.{loggerPlaces, presentAt, stampAt}
@@ -52,5 +52,5 @@ unfoldable pub joinAnswer : ℕ → List Timestamp → JoinAnswer
 joinAnswer ratio l =
     pick (not (validRatio ratio)) (refusedJoin BadRatio 0)
     (pick (not (validLength (length l))) (refusedJoin BadLength 0)
-    (pick (not (all valid l)) (refusedJoin BadEntry (firstInvalid l))
+    (pick (not (eachPasses valid l)) (refusedJoin BadEntry (firstInvalid l))
     (record { number = 0; place = 0; timestamps = shown (joinOf (clocksOf ratio) l) })))

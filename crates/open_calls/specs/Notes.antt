@@ -6,7 +6,7 @@ use Prim.Native.Nat.{ℕ, _+_, _-_, _≤_, _<_}
 use lib.Dec.{ltb}
 use lib.ListN.{getD, length, set}
 use Rattle.sequences.specs.Choice.{pick}
-use Rattle.sequences.specs.Members.{_∈_}
+use Rattle.sequences.specs.Members.{_isIn_}
 use Rattle.timestamps.specs.declared.CompositeTimestamp.{CompositeTimestamp}
 use Rattle.timestamps.specs.declared.Timestamp.{Timestamp}
 use Rattle.timestamps.specs.Composite.{loggerPlaces, members, presentAt, stampAt}
@@ -24,21 +24,21 @@ abbrev pub noteAt : List ℕ → ℕ → ℕ
 noteAt notes place = getD notes place 0
 
 -- the note of the highest global tick of a composite
-pub record Highest (clocks : Clocks) (c : CompositeTimestamp) (highest : ℕ) : Type 0 where
-  pub most : (s : Timestamp) → s ∈ members c → globalNote clocks s ≤ highest
-  pub some : 0 < highest → (s : Timestamp) × (s ∈ members c) × (globalNote clocks s ≡ highest)
+pub record HighestNote (clocks : Clocks) (c : CompositeTimestamp) (highest : ℕ) : Type 0 where
+  pub most : (s : Timestamp) → s isIn members c → globalNote clocks s ≤ highest
+  pub some : 0 < highest → (s : Timestamp) × (s isIn members c) × (globalNote clocks s ≡ highest)
 
 -- the notes of a composite: at place k the local tick of its timestamp of logger k, at 8 + k the global tick, at 16 the highest global tick. The size
 -- is said since the proof of a function is not told the length of an array that is lent to it
-pub record Noted (clocks : Clocks) (c : CompositeTimestamp) (notes : List ℕ) : Type 0 where
+pub record NotedJoin (clocks : Clocks) (c : CompositeTimestamp) (notes : List ℕ) : Type 0 where
   pub size : length notes ≡ 17
   pub local : (k : ℕ) → k < 8 → noteAt notes k ≡ pick (presentAt c k) (localNote (stampAt c k)) 0
   pub global : (k : ℕ) → k < 8 → noteAt notes (8 + k) ≡ pick (presentAt c k) (globalNote clocks (stampAt c k)) 0
-  pub highest : Highest clocks c (noteAt notes 16)
+  pub highest : HighestNote clocks c (noteAt notes 16)
 
 -- the notes of the join of a list
 abbrev pub Joined : Clocks → List Timestamp → List ℕ → Type 0
-Joined clocks l notes = Noted clocks (joinOf clocks l) notes
+Joined clocks l notes = NotedJoin clocks (joinOf clocks l) notes
 
 -- of two notes of global ticks the first is clearly earlier
 abbrev pub clearNote : ℕ → ℕ → Bool

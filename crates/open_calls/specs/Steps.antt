@@ -4,12 +4,12 @@ use mathlib.Core.List.{List}
 use mathlib.Core.Path.{_≡_}
 use Prim.Native.Nat.{ℕ}
 use Rattle.sequences.specs.Choice.{pick}
-use Rattle.sequences.specs.Select.{all}
+use Rattle.sequences.specs.Select.{eachPasses}
 use Rattle.timestamps.specs.declared.Timestamp.{Timestamp}
 use Rattle.timestamps.specs.Order.{Clocks, valid, validRatio}
 use Rattle.open_calls.specs.declared.Verdict.{Verdict}
 use Rattle.open_calls.specs.declared.Verdict.the-variants.{Accepted, BadRatio, BadLength, BadEntry}
-use Rattle.open_calls.specs.declared.Judged.{Judged}
+use Rattle.open_calls.specs.declared.VerdictAt.{VerdictAt}
 use Rattle.open_calls.specs.declared.Joining.{Joining}
 use Rattle.open_calls.specs.declared.JoinStart.{JoinStart}
 use Rattle.open_calls.specs.Answers.{firstInvalid, refusal, refusedJoin, validLength}
@@ -19,20 +19,20 @@ use Rattle.open_calls.specs.Notes.{Joined}
 unfoldable pub joinVerdict : ℕ → ℕ → Verdict
 joinVerdict ratio n = pick (not (validRatio ratio)) BadRatio (pick (not (validLength n)) BadLength Accepted)
 
-abbrev pub nothingJudged : Judged
+abbrev pub nothingJudged : VerdictAt
 nothingJudged = record { verdict = Accepted; place = 0 }
 
 unfoldable pub joinStart : ℕ → ℕ → JoinStart
 joinStart ratio n = record { stop = refusal (joinVerdict ratio n); answer = refusedJoin (joinVerdict ratio n) 0; judged = nothingJudged }
 
 -- how the entries of a list are judged
-unfoldable pub judgedOf : List Timestamp → Judged
-judgedOf l = pick (all valid l) nothingJudged (record { verdict = BadEntry; place = firstInvalid l })
+unfoldable pub judgedOf : List Timestamp → VerdictAt
+judgedOf l = pick (eachPasses valid l) nothingJudged (record { verdict = BadEntry; place = firstInvalid l })
 
-abbrev pub joiningOf : Judged → List ℕ → Joining
+abbrev pub joiningOf : VerdictAt → List ℕ → Joining
 joiningOf judged join = record { judged = judged; join = join }
 
 -- a list judged, and joined while no entry turned it back
 pub record Joins (clocks : Clocks) (l : List Timestamp) (a : Joining) : Type 0 where
   pub judged : a .judged ≡ judgedOf l
-  pub joined : all valid l ≡ true → Joined clocks l (a .join)
+  pub joined : eachPasses valid l ≡ true → Joined clocks l (a .join)

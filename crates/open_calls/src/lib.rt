@@ -5,7 +5,7 @@ ghost use mathlib.Core.List.{List, [], _∷_, _++_};
 ghost use Prim.Native.Nat.{ℕ, _<_};
 ghost use lib.Dec.{ltb};
 ghost use lib.ListN.{length};
-ghost use Rattle.sequences.specs.Select.{all};
+ghost use Rattle.sequences.specs.Select.{eachPasses};
 ghost use Rattle.timestamps.specs.declared.Timestamp.{Timestamp};
 ghost use Rattle.timestamps.specs.Order.{clocksOf, valid};
 ghost use Rattle.open_calls.specs.Answers.{joinAnswer, numberOf, refusal, refusedJoin, validLength};
@@ -34,22 +34,25 @@ pub struct JoinAnswer {
     pub timestamps: [Timestamp; 8],
 }
 
-pub fn number_of(v: Verdict) -> u64
-    ensures { λ r. ⌜ r ≡ numberOf v ⌝ }
-{
-    match v {
-        Verdict::Accepted => 0,
-        Verdict::BadRatio => 34,
-        Verdict::BadLength => 35,
-        Verdict::BadEntry => 36,
-        Verdict::NotConcurrent => 37,
+impl Verdict {
+    // Document 01's number of the verdict, 0 where the call is accepted.
+    pub fn number(self) -> u64
+        ensures { λ r. ⌜ r ≡ numberOf self ⌝ }
+    {
+        match self {
+            Verdict::Accepted => 0,
+            Verdict::BadRatio => 34,
+            Verdict::BadLength => 35,
+            Verdict::BadEntry => 36,
+            Verdict::NotConcurrent => 37,
+        }
     }
-}
 
-pub fn is_refusal(v: Verdict) -> bool
-    ensures { λ r. ⌜ r ≡ refusal v ⌝ }
-{
-    0 < number_of(v)
+    pub fn is_refusal(self) -> bool
+        ensures { λ r. ⌜ r ≡ refusal self ⌝ }
+    {
+        0 < self.number()
+    }
 }
 
 pub fn is_length(n: usize) -> bool
@@ -61,7 +64,7 @@ pub fn is_length(n: usize) -> bool
 fn refused_join(v: Verdict, place: u64) -> JoinAnswer
     ensures { λ r. ⌜ r ≡ refusedJoin v place ⌝ }
 {
-    let number = number_of(v);
+    let number = v.number();
     let blank = Timestamp::blank();
     JoinAnswer {
         number: number,
@@ -152,7 +155,7 @@ fn make_room(join: &mut JoinNotes, global: u64)
 // whether it comes to stand.
 fn add(join: &mut JoinNotes, s: Timestamp, ratio: u64)
     requires { ⌜ valid s ≡ true ⌝ }
-    ensures joined { λ _. ⌜ ((l : List Timestamp) → all valid l ≡ true
+    ensures joined { λ _. ⌜ ((l : List Timestamp) → eachPasses valid l ≡ true
         → Joined (clocksOf ratio) l (now (join .entry))
         → Joined (clocksOf ratio) (l ++ (s ∷ [])) (now (join .exit))) ⌝ }
 {
@@ -172,15 +175,15 @@ fn add(join: &mut JoinNotes, s: Timestamp, ratio: u64)
 
 // ---- the join
 
-// How a list has been judged so far: turned back, and at which place, or not.
-pub struct Judged {
+// The verdict on a list so far: turned back, and at which place, or not.
+pub struct VerdictAt {
     pub verdict: Verdict,
     pub place: u64,
 }
 
 // A list judged, and joined while no entry turned it back.
 pub struct Joining {
-    pub judged: Judged,
+    pub judged: VerdictAt,
     pub join: JoinNotes,
 }
 
@@ -188,7 +191,7 @@ pub struct Joining {
 pub struct JoinStart {
     pub stop: bool,
     pub answer: JoinAnswer,
-    pub judged: Judged,
+    pub judged: VerdictAt,
 }
 
 pub fn join_verdict(ratio: u64, n: usize) -> Verdict
@@ -207,9 +210,9 @@ pub fn join_start(ratio: u64, n: usize) -> JoinStart
     ensures { λ r. ⌜ r ≡ joinStart ratio n ⌝ }
 {
     let v = join_verdict(ratio, n);
-    let stop = is_refusal(v);
+    let stop = v.is_refusal();
     let answer = refused_join(v, 0);
-    let judged = Judged {
+    let judged = VerdictAt {
         verdict: Verdict::Accepted,
         place: 0,
     };
@@ -222,26 +225,32 @@ pub fn join_start(ratio: u64, n: usize) -> JoinStart
 
 // One entry more: after a bad one nothing changes. What is handed back is made anew in each case: `a` itself would be copied with its padding,
 // and every entry would wait for that copy.
-pub fn join_step(a: Judged, join: &mut JoinNotes, s: Timestamp, i: usize, ratio: u64) -> Judged
+pub fn join_step(
+    a: VerdictAt,
+    join: &mut JoinNotes,
+    s: Timestamp,
+    i: usize,
+    ratio: u64,
+) -> VerdictAt
     ensures joined { λ r. ⌜ ((l : List Timestamp) → length l ≡ i
         → Joins (clocksOf ratio) l (joiningOf a (now (join .entry)))
         → Joins (clocksOf ratio) (l ++ (s ∷ [])) (joiningOf r (now (join .exit)))) ⌝ }
 {
     let v = a.verdict;
     let place = a.place;
-    if is_refusal(v) {
-        Judged {
+    if v.is_refusal() {
+        VerdictAt {
             verdict: v,
             place: place,
         }
     } else if s.valid() {
         add(join, s, ratio);
-        Judged {
+        VerdictAt {
             verdict: Verdict::Accepted,
             place: 0,
         }
     } else {
-        Judged {
+        VerdictAt {
             verdict: Verdict::BadEntry,
             place: i as u64,
         }
@@ -249,7 +258,7 @@ pub fn join_step(a: Judged, join: &mut JoinNotes, s: Timestamp, i: usize, ratio:
 }
 
 // The join stays in one place and is lent to each step: after i entries it is the join of the first i.
-pub fn fold_join(init: Judged, list: &[Timestamp], ratio: u64) -> Joining
+pub fn fold_join(init: VerdictAt, list: &[Timestamp], ratio: u64) -> Joining
     ensures joined { λ r. ⌜ (init ≡ nothingJudged → Joins (clocksOf ratio) (now (list .entry)) r) ⌝ }
 {
     let mut join: JoinNotes = [0; 17];
@@ -286,13 +295,13 @@ fn show(join: JoinNotes) -> [Timestamp; 8]
     ensures { λ r. ⌜ r ≡ shownFrom join ⌝ }
 {
     let blank = Timestamp::blank();
-    let mut all = [blank; 8];
+    let mut shown = [blank; 8];
     let mut k: usize = 0;
     while k < 8 {
-        all[k] = show_note(join[k], k);
+        shown[k] = show_note(join[k], k);
         k = k + 1;
     }
-    all
+    shown
 }
 
 // The answer for a list that has been walked.
@@ -304,14 +313,14 @@ pub fn join_done(a: Joining) -> JoinAnswer
     let v = judged.verdict;
     let place = judged.place;
     let join = a.join;
-    if is_refusal(v) {
+    if v.is_refusal() {
         refused_join(v, place)
     } else {
-        let all = show(join);
+        let shown = show(join);
         JoinAnswer {
             number: 0,
             place: 0,
-            timestamps: all,
+            timestamps: shown,
         }
     }
 }

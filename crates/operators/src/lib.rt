@@ -18,7 +18,7 @@ ghost use Rattle.emissions.specs.Emissions.{Emits, Emitting, emittedAll};
 ghost use Rattle.waiting_lists.specs.Lists.{Waits, listOf};
 ghost use Rattle.waiting_lists.specs.Waiting.{appendedTo};
 ghost use Rattle.arrivals.specs.Arrivals.{settingOf};
-ghost use Rattle.arrivals.specs.Views.{HoldsMet, HoldsSides, Room, Spare};
+ghost use Rattle.arrivals.specs.Views.{HoldsMet, HoldsSides, InOutput, Spare};
 ghost use Rattle.operators.specs.Steps.{andTurn, begun, meeting, metStep, orTurn, seqTurn, sides, sidesStep};
 ghost use Rattle.operators.specs.Turns.{nodeTurn};
 ghost use Rattle.operators.specs.Views.{HoldsTurned, Listed, ListedTwo, Offered, Passing, PassingTwo, Sided, SidedTwo, Spares};
@@ -35,7 +35,7 @@ fn or_all(
     loggers: &LoggerNumbers,
     out: &mut [u8],
 ) -> Emit
-    requires { ⌜ Passing (now ticks) (now arrivals) e (now made) (now out) × Room e (now out) ⌝ }
+    requires { ⌜ Passing (now ticks) (now arrivals) e (now made) (now out) × InOutput e (now out) ⌝ }
     ensures emits { λ r. ⌜ ((globals : List ℕ) (t : Notes (now (ticks .entry)) globals) (k : List Occurrence) (s : Emitting)
         → Stand t (now (arrivals .entry)) k → Emits t e (now (made .entry)) (now (out .entry)) s
         → Emits t r (now (made .exit)) (now (out .exit)) (emittedAll (length (now (out .entry))) (now (loggers .entry)) place s k)) ⌝ }
@@ -89,7 +89,7 @@ fn meet_all(
     loggers: &LoggerNumbers,
     out: &mut [u8],
 ) -> Emit
-    requires { ⌜ Listed (now ticks) (now globals) (now list) (now arrivals) e (now made) (now out) × Room e (now out) ⌝ }
+    requires { ⌜ Listed (now ticks) (now globals) (now list) (now arrivals) e (now made) (now out) × InOutput e (now out) ⌝ }
     ensures meets { λ r. ⌜ ((t : Notes (now (ticks .entry)) (now (globals .entry))) (l k : List Occurrence) (s : Emitting)
         → Waits t (now (list .entry)) l → Stand t (now (arrivals .entry)) k → Emits t e (now (made .entry)) (now (out .entry)) s
         → HoldsMet t r (now (list .exit)) (now (made .exit)) (now (out .exit))
@@ -133,7 +133,7 @@ fn and_all(
     loggers: &LoggerNumbers,
     out: &mut [u8],
 ) -> Emit
-    requires { ⌜ Sided (now ticks) (now globals) (now own) (now other) (now arrivals) e (now made) (now out) × Room e (now out)
+    requires { ⌜ Sided (now ticks) (now globals) (now own) (now other) (now arrivals) e (now made) (now out) × InOutput e (now out)
         × Spare (now own) (length (now arrivals)) ⌝ }
     ensures faces { λ r. ⌜ ((t : Notes (now (ticks .entry)) (now (globals .entry))) (l m k : List Occurrence) (s : Emitting)
         → Waits t (now (own .entry)) l → Waits t (now (other .entry)) m
@@ -167,12 +167,12 @@ fn and_all(
 // ---- the turn
 
 // Nothing made yet.
-fn fresh(findings: u64, at: usize) -> Emit
+fn nothing_made(findings: u64, at: usize) -> Emit
     ensures { λ r. ⌜ ((ticks globals : List ℕ) (t : Notes ticks globals) (made : List (List ℕ)) (out : List ℕ)
         → Emits t r made out (begun findings (take at out))) × (r .at ≡ at) × (r .findings ≡ findings) ⌝ }
 {
     Emit {
-        limit: emissions::number_of(Limit::None),
+        limit: Limit::None.number(),
         made: 0,
         findings: findings,
         at: at,
@@ -190,7 +190,7 @@ fn or_turn(
     loggers: &LoggerNumbers,
     out: &mut [u8],
 ) -> Emit
-    requires { ⌜ PassingTwo (now ticks) (now la) (now ra) e (now made) (now out) × Room e (now out) ⌝ }
+    requires { ⌜ PassingTwo (now ticks) (now la) (now ra) e (now made) (now out) × InOutput e (now out) ⌝ }
     ensures emits { λ r. ⌜ ((globals : List ℕ) (t : Notes (now (ticks .entry)) globals) (a b : List Occurrence) (s : Emitting)
         → Stand t (now (la .entry)) a → Stand t (now (ra .entry)) b → Emits t e (now (made .entry)) (now (out .entry)) s
         → Emits t r (now (made .exit)) (now (out .exit)) (orTurn (length (now (out .entry))) (now (loggers .entry)) place a b s)) ⌝ }
@@ -214,7 +214,7 @@ fn seq_turn(
     loggers: &LoggerNumbers,
     out: &mut [u8],
 ) -> Emit
-    requires { ⌜ ListedTwo (now ticks) (now globals) (now left) (now la) (now ra) e (now made) (now out) × Room e (now out) × (e .limit ≡ 0)
+    requires { ⌜ ListedTwo (now ticks) (now globals) (now left) (now la) (now ra) e (now made) (now out) × InOutput e (now out) × (e .limit ≡ 0)
         × Spare (now left) (length (now la)) ⌝ }
     ensures meets { λ r. ⌜ ((t : Notes (now (ticks .entry)) (now (globals .entry))) (l a b : List Occurrence) (s : Emitting)
         → Waits t (now (left .entry)) l → Stand t (now (la .entry)) a → Stand t (now (ra .entry)) b
@@ -247,7 +247,7 @@ fn and_turn(
     out: &mut [u8],
 ) -> Emit
     requires { ⌜ SidedTwo (now ticks) (now globals) (now left) (now right) (now la) (now ra) e (now made) (now out)
-        × Room e (now out) × Spare (now left) (length (now la)) × Spare (now right) (length (now ra)) ⌝ }
+        × InOutput e (now out) × Spare (now left) (length (now la)) × Spare (now right) (length (now ra)) ⌝ }
     ensures turns { λ r. ⌜ ((t : Notes (now (ticks .entry)) (now (globals .entry))) (x y a b : List Occurrence) (s : Emitting)
         → Waits t (now (left .entry)) x → Waits t (now (right .entry)) y
         → Stand t (now (la .entry)) a → Stand t (now (ra .entry)) b → Emits t e (now (made .entry)) (now (out .entry)) s
@@ -308,7 +308,7 @@ pub fn node_turn(
         (nodeTurn (settingOf (length (now (out .entry))) (t .clocks) (now (loggers .entry))) node place x y k m findings (take at (now (out .entry))))) ⌝ }
     ensures beyond { λ r. ⌜ Beyond (now (out .entry)) (now (out .exit)) at (r .findings) (r .at) ⌝ }
 {
-    let e = fresh(findings, at);
+    let e = nothing_made(findings, at);
     if node.operator == Node::OR {
         return or_turn(place, la, ra, e, made, ticks, loggers, out);
     }

@@ -7,11 +7,11 @@ use lib.Dec.{eqb, ltb}
 use lib.ListN.{getD, length}
 use Rattle.sequences.specs.Choice.{pick}
 use Rattle.sequences.specs.Parts.{partOf}
-use Rattle.sequences.specs.Range.{range}
+use Rattle.sequences.specs.Range.{numbersFrom}
 
 -- the rows that stand one after the other in a list: each begins where `at` says, and ends where the next begins
 unfoldable pub rowsOf : {A : Type 0} → List ℕ → List A → List (List A)
-rowsOf at l = map (λ k. partOf (getD at k 0) (getD at (k + 1) 0) l) (range 0 (length at - 1))
+rowsOf at l = map (λ k. partOf (getD at k 0) (getD at (k + 1) 0) l) (numbersFrom 0 (length at - 1))
 
 -- rows that rise: each of the first n begins where the one before ends; past them there is none
 pub record Ascending (n : ℕ) (at : List ℕ) : Type 0 where

@@ -1,8 +1,7 @@
 // The C interface: include/rathunxa.h declares these functions. Each only passes its arguments on.
 ghost use mathlib.Core.Path.{_≡_};
-ghost use lib.ListN.{length, take};
-ghost use Rattle.working.specs.Latest.{LatestExact};
-ghost use Rattle.working.specs.Working.{Answers, worked};
+ghost use Rattle.working.specs.Latest.{LatestWritten};
+ghost use Rattle.working.specs.Working.{FilesWorked};
 ghost use Rattle.comparisons.specs.Answers.{compareAnswer};
 ghost use Rattle.open_calls.specs.Answers.{joinAnswer};
 use comparisons::Comparison;
@@ -12,10 +11,8 @@ use working::Answer;
 
 #[no_mangle]
 pub extern "C" fn rathunxa_work(plan: &[u8], passage: &[u8], output: &mut [u8]) -> Answer
-    ensures answers { λ r. ⌜ Answers
-        (worked (now (plan .entry)) (now (passage .entry)) (length (now (output .entry))))
-        (now (output .entry)) r (now (output .exit)) ⌝ }
-    ensures latest { λ r. ⌜ LatestExact (now (plan .entry)) (now (passage .entry)) (r .findings) (take (r .bytes) (now (output .exit))) ⌝ }
+    ensures answers { λ r. ⌜ FilesWorked (now (plan .entry)) (now (passage .entry)) (now (output .entry)) r (now (output .exit)) ⌝ }
+    ensures latest { λ r. ⌜ LatestWritten (now (plan .entry)) (now (passage .entry)) r (now (output .exit)) ⌝ }
 {
     gateway::work(plan, passage, output)
 }

@@ -9,8 +9,8 @@ use native.Mathlib.Omega.{arith}
 use lib.ListN.{length}
 use lib.Dec.{leb, ltb, leb·zero}
 use borrow.Author.Tests.{lt-ltb, le-leb, ltb-true, leb-true}
-use Rattle.sequences.specs.Members.{_∈_}
-use Rattle.sequences.specs.Select.{all}
+use Rattle.sequences.specs.Members.{_isIn_}
+use Rattle.sequences.specs.Select.{eachPasses}
 use Rattle.sequences.proofs.Booleans.{either-way, same-test}
 use Rattle.sequences.proofs.Rising.{rising-snoc, rising-same}
 use Rattle.sequences.proofs.Select.{all-of}
@@ -71,7 +71,7 @@ stamp-cut b at v h = bad-seen 1 v at refl ∙ sym (piece-short stamp 1 (λ s. 0)
 
 -- ---- events
 -- a number above all elements comes after them
-elements-more : (s : EventSet) (n : ℕ) → n < 128 → ((j : ℕ) → j ∈ elements s → j < n) → elements (markedWith s n) ≡ elements s ++ (n ∷ [])
+elements-more : (s : EventSet) (n : ℕ) → n < 128 → ((j : ℕ) → j isIn elements s → j < n) → elements (markedWith s n) ≡ elements s ++ (n ∷ [])
 elements-more s n h k =
     rising-same (elements (markedWith s n)) (elements s ++ (n ∷ [])) (elements-rising (markedWith s n)) (rising-snoc (elements s) n (elements-rising s) k) (
       (λ j m. ⊎-elim (λ e. Memᴰ·append-right (elements s) (List·Memᴰ·head e)) (λ i. Memᴰ·append-left (n ∷ []) i) (elements-marked s n j h .0 m)),
@@ -80,12 +80,12 @@ elements-more s n h k =
 
 -- the next number: `least` is the least that is above those of l
 abbrev pub Least : List ℕ → ℕ → Type 0
-Least l least = (v : ℕ) → all (λ m. ltb m v) l ≡ leb least v
+Least l least = (v : ℕ) → eachPasses (λ m. ltb m v) l ≡ leb least v
 
-all-snoc : (p : ℕ → Bool) (l : List ℕ) (n : ℕ) → all p (l ++ (n ∷ [])) ≡ (all p l && p n)
-unfolding all
+all-snoc : (p : ℕ → Bool) (l : List ℕ) (n : ℕ) → eachPasses p (l ++ (n ∷ [])) ≡ (eachPasses p l && p n)
+unfolding eachPasses
 all-snoc p [] n = and-true (p n)
-all-snoc p (a ∷ l) n = rw (all-snoc p l n) (sym (and-assoc (p a) (all p l) (p n)))
+all-snoc p (a ∷ l) n = rw (all-snoc p l n) (sym (and-assoc (p a) (eachPasses p l) (p n)))
 
 least-more : (l : List ℕ) (least n : ℕ) → Least l least → least ≤ n → Least (l ++ (n ∷ [])) (n + 1)
 least-more l least n h k v =
@@ -136,7 +136,7 @@ module _ (b : List ℕ) (s : EventSet) (least at : ℕ) (h : Least (elements s) 
 
 -- ---- a loop that marks the events in a set: of n, i are read
 pub events-none : (s : EventSet) → s ≡ noEvents → (elements s ≡ []) × Least (elements s) 0
-unfolding all
+unfolding eachPasses
 events-none s e =
     let n : elements s ≡ [] = ap elements e ∙ elements-none in
     (n, λ v. rw n (sym (leb·zero v)))

@@ -10,8 +10,8 @@ use lib.ListN.{length, take, drop, length-append, length-map}
 use lib.Seq.{take-add}
 use lib.Dec.{ltb}
 use borrow.Author.Tests.{lt-ltb, ltb-true}
-use Rattle.sequences.specs.Members.{_∈_}
-use Rattle.sequences.specs.Select.{all}
+use Rattle.sequences.specs.Members.{_isIn_}
+use Rattle.sequences.specs.Select.{eachPasses}
 use Rattle.sequences.proofs.Booleans.{and-left, and-right, and-both}
 use Rattle.sequences.proofs.Members.{map-of}
 use Rattle.sequences.proofs.Select.{all-in, all-of}
@@ -50,7 +50,7 @@ within-fits f w =
 
 -- a finding of the code's values keeps them, where the node and the numbers of the loggers fit two bytes
 pub finding-within : (loggers : List ℕ) (node : ℕ) (c : CompositeTimestamp) (s : EventSet) → node < 65536
-    → ((t : Timestamp) → t ∈ members c → StampFits (written loggers t)) → WithinLimits (findingOf loggers node c s)
+    → ((t : Timestamp) → t isIn members c → StampFits (written loggers t)) → WithinLimits (findingOf loggers node c s)
 unfolding findingOf sizeOf
 finding-within loggers node c s h k =
     record {
@@ -63,14 +63,14 @@ finding-within loggers node c s h k =
     }
 
 -- ---- the limits, as the sections have them
-stamps-fine : (p l : List Stamp) → ((s : Stamp) → s ∈ l → StampFits s) → Fine stampSection p l
+stamps-fine : (p l : List Stamp) → ((s : Stamp) → s isIn l → StampFits s) → Fine stampSection p l
 unfolding Fine
 stamps-fine p [] h = tt
 stamps-fine p (a ∷ l) h =
     let f = h a (List·Memᴰ·head refl) in
     ((f .logger, f .tick), refl, stamps-fine (p ++ (a ∷ [])) l (λ s m. h s (List·Memᴰ·tail m)))
 
-fine-stamps : (p l : List Stamp) → Fine stampSection p l → (s : Stamp) → s ∈ l → StampFits s
+fine-stamps : (p l : List Stamp) → Fine stampSection p l → (s : Stamp) → s isIn l → StampFits s
 unfolding Fine
 fine-stamps p [] h s m = absurd (List·Memᴰ·not-nil m)
 fine-stamps p (a ∷ l) h s m =
@@ -81,8 +81,8 @@ fine-stamps p (a ∷ l) h s m =
 
 -- what follows those of p
 record Follow (p l : List ℕ) : Type 0 where
-  after : (m n : ℕ) → m ∈ p → n ∈ l → m < n
-  small : (n : ℕ) → n ∈ l → n < 128
+  after : (m n : ℕ) → m isIn p → n isIn l → m < n
+  small : (n : ℕ) → n isIn l → n < 128
   rising : Rising l
 
 events-fine : (p l : List ℕ) → Follow p l → Fine eventSection p l
@@ -108,10 +108,10 @@ fine-events p (a ∷ l) h =
     let t = fine-events (p ++ (a ∷ [])) l (h .2) in
     record {
       after = λ m n i j. ⊎-elim
-          (λ e. subst (λ b. m < b) (sym e) (ltb-true m a (all-of (λ m. ltb m a) p (and-left (all (λ m. ltb m a) p) (ltb a 128) next) i)))
+          (λ e. subst (λ b. m < b) (sym e) (ltb-true m a (all-of (λ m. ltb m a) p (and-left (eachPasses (λ m. ltb m a) p) (ltb a 128) next) i)))
           (λ k. t .after m n (Memᴰ·append-left (a ∷ []) i) k)
           (List·Memᴰ·cases-cons j);
-      small = λ n j. ⊎-elim (λ e. subst (λ b. b < 128) (sym e) (ltb-true a 128 (and-right (all (λ m. ltb m a) p) (ltb a 128) next))) (λ k. t .small n k) (List·Memᴰ·cases-cons j);
+      small = λ n j. ⊎-elim (λ e. subst (λ b. b < 128) (sym e) (ltb-true a 128 (and-right (eachPasses (λ m. ltb m a) p) (ltb a 128) next))) (λ k. t .small n k) (List·Memᴰ·cases-cons j);
       rising = ((λ n j. t .after a n (Memᴰ·append-right p (List·Memᴰ·head refl)) j), t .rising);
     }
 
@@ -148,7 +148,7 @@ written-is-read f l l′ at r w h v =
     laid-out-is-read f l′ (drop r l) at w (omega arith) (wrote-there (omega arith) v) ∙ ap (found f) (sym (v .next))
 
 pub detection-is-read : (loggers : List ℕ) (node : ℕ) (c : CompositeTimestamp) (s : EventSet) (l l′ : List ℕ) (at r : ℕ) → node < 65536
-    → ((t : Timestamp) → t ∈ members c → StampFits (written loggers t))
+    → ((t : Timestamp) → t isIn members c → StampFits (written loggers t))
     → at + length (findingBytes (findingOf loggers node c s)) ≤ length l → Wrote l at (findingBytes (findingOf loggers node c s)) r l′
     → readFinding l′ at ≡ found (findingOf loggers node c s) r
 detection-is-read loggers node c s l l′ at r h k fit w = written-is-read (findingOf loggers node c s) l l′ at r (finding-within loggers node c s h k) fit w

@@ -4,8 +4,8 @@ use mathlib.Core.Bool.{Bool, true, false, _&&_}
 use mathlib.Core.List.{List, []}
 use lib.ListN.{length}
 use lib.Dec.{ltb}
-use Rattle.sequences.specs.Members.{_∈_}
-use Rattle.sequences.specs.Select.{all}
+use Rattle.sequences.specs.Members.{_isIn_}
+use Rattle.sequences.specs.Select.{eachPasses}
 use Rattle.sequences.specs.Range.{Rising}
 use Rattle.forms.specs.Forms.{number}
 use Rattle.forms.specs.Sections.{unless, Read, got, bad, then, piece, Section, section}
@@ -16,14 +16,14 @@ use Rattle.detections.specs.Findings.{Finding, FindingFits, StampFits, stamp}
 pub record WithinLimits (f : Finding) : Type 0 where
   pub node : f .node < 65536
   pub stamp-count : length (f .stamps) ≤ 8
-  pub stamps : (s : Stamp) → s ∈ f .stamps → StampFits s
+  pub stamps : (s : Stamp) → s isIn f .stamps → StampFits s
   pub event-count : length (f .events) ≤ 128
-  pub events : (n : ℕ) → n ∈ f .events → n < 128
+  pub events : (n : ℕ) → n isIn f .events → n < 128
   pub rising : Rising (f .events)
 
 -- each of a list of findings has numbers that fit into their bytes, so that the bytes tell them apart
 abbrev pub AllFit : List Finding → Type 0
-AllFit fs = (f : Finding) → f ∈ fs → FindingFits f
+AllFit fs = (f : Finding) → f isIn fs → FindingFits f
 
 -- ---- the sections, with one fault, 1, for all that is not in order
 abbrev pub stampSection : Section Stamp
@@ -39,7 +39,7 @@ stampSection =
 
 -- above all before it, and below 128
 abbrev pub isNext : List ℕ → ℕ → Bool
-isNext before n = all (λ m. ltb m n) before && ltb n 128
+isNext before n = eachPasses (λ m. ltb m n) before && ltb n 128
 
 abbrev pub eventSection : Section ℕ
 eventSection =

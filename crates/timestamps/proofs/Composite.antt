@@ -8,8 +8,8 @@ use native.Mathlib.Omega.{arith}
 use lib.ListN.{length, getD, length-map}
 use lib.Seq.{ext-getD}
 use borrow.Author.Tests.{eq-eqb, eqb-true, eqb-false}
-use Rattle.sequences.specs.Members.{_∈_, SameMembers}
-use Rattle.sequences.specs.Select.{filter, any}
+use Rattle.sequences.specs.Members.{_isIn_, SameMembers}
+use Rattle.sequences.specs.Select.{filter, somePasses}
 use Rattle.sequences.proofs.Parts.{getD-map}
 use Rattle.sequences.proofs.Booleans.{either-way, never-both, same-test}
 use Rattle.sequences.proofs.Members.{map-in, map-of, map-same}
@@ -38,7 +38,7 @@ pub record Holds (c : CompositeTimestamp) (s : Timestamp) : Type 0 where
   pub there : presentAt c (s .logger) ≡ true
   pub tick : getD (c .ticks) (s .logger) tickZero ≡ s .tick
 
-pub members-of : (c : CompositeTimestamp) (s : Timestamp) → s ∈ members c → Holds c s
+pub members-of : (c : CompositeTimestamp) (s : Timestamp) → s isIn members c → Holds c s
 unfolding members
 members-of c s m =
     let (k, i, e) = map-of (stampAt c) (filter (presentAt c) loggerPlaces) m in
@@ -50,21 +50,21 @@ members-of c s m =
       tick = rw f (ap (λ t. t .tick) (sym e));
     }
 
-pub members-in : (c : CompositeTimestamp) (s : Timestamp) → Holds c s → s ∈ members c
+pub members-in : (c : CompositeTimestamp) (s : Timestamp) → Holds c s → s isIn members c
 unfolding members
 members-in c s h =
-    let r : s .logger ∈ loggerPlaces = range-in 0 8 (s .logger) (omega arith) (h .place) in
-    let i : s .logger ∈ filter (presentAt c) loggerPlaces = filter-in (presentAt c) loggerPlaces r (h .there) in
+    let r : s .logger isIn loggerPlaces = range-in 0 8 (s .logger) (omega arith) (h .place) in
+    let i : s .logger isIn filter (presentAt c) loggerPlaces = filter-in (presentAt c) loggerPlaces r (h .there) in
     Memᴰ·cast (λ j. record { logger = s .logger; tick = sym (h .tick) j }) (map-in (stampAt c) (filter (presentAt c) loggerPlaces) i)
 
 -- the stamp at a place where there is one
-pub stamp-in : (c : CompositeTimestamp) (k : ℕ) → k < 8 → presentAt c k ≡ true → stampAt c k ∈ members c
+pub stamp-in : (c : CompositeTimestamp) (k : ℕ) → k < 8 → presentAt c k ≡ true → stampAt c k isIn members c
 stamp-in c k h p = members-in c (stampAt c k) (record { place = h; there = p; tick = refl })
 
 -- ---- the composite of a list
-pub present-of : (l : List Timestamp) (k : ℕ) → k < 8 → presentAt (compositeOf l) k ≡ any (ofLogger k) l
+pub present-of : (l : List Timestamp) (k : ℕ) → k < 8 → presentAt (compositeOf l) k ≡ somePasses (ofLogger k) l
 unfolding compositeOf
-present-of l k h = at-place (λ j. any (ofLogger j) l) false k h
+present-of l k h = at-place (λ j. somePasses (ofLogger j) l) false k h
 
 pub tick-of : (l : List Timestamp) (k : ℕ) → k < 8 → getD (compositeOf l .ticks) k tickZero ≡ tickOf l k
 unfolding compositeOf
@@ -72,9 +72,9 @@ tick-of l k h = at-place (tickOf l) tickZero k h
 
 -- at most one stamp for each logger
 abbrev pub OnePerLogger : List Timestamp → Type 0
-OnePerLogger l = (s t : Timestamp) → s ∈ l → t ∈ l → s .logger ≡ t .logger → s ≡ t
+OnePerLogger l = (s t : Timestamp) → s isIn l → t isIn l → s .logger ≡ t .logger → s ≡ t
 
-pub tickOf-in : (l : List Timestamp) (s : Timestamp) → s ∈ l → OnePerLogger l → tickOf l (s .logger) ≡ s .tick
+pub tickOf-in : (l : List Timestamp) (s : Timestamp) → s isIn l → OnePerLogger l → tickOf l (s .logger) ≡ s .tick
 unfolding tickOf
 tickOf-in [] s m u = absurd (List·Memᴰ·not-nil m)
 tickOf-in (a ∷ l) s m u =
@@ -85,8 +85,8 @@ tickOf-in (a ∷ l) s m u =
     (λ x y i j. u x y (List·Memᴰ·tail i) (List·Memᴰ·tail j))))
     (either-way (ofLogger (s .logger) a))
 
-pub tickOf-none : (l : List Timestamp) (k : ℕ) → any (ofLogger k) l ≡ false → tickOf l k ≡ tickZero
-unfolding tickOf any
+pub tickOf-none : (l : List Timestamp) (k : ℕ) → somePasses (ofLogger k) l ≡ false → tickOf l k ≡ tickZero
+unfolding tickOf somePasses
 tickOf-none [] k e = refl
 tickOf-none (a ∷ l) k e =
     ⊎-elim
@@ -95,17 +95,17 @@ tickOf-none (a ∷ l) k e =
     (either-way (ofLogger k a))
 
 -- its members are the list's
-pub members-compositeOf : (l : List Timestamp) → ((s : Timestamp) → s ∈ l → s .logger < 8) → OnePerLogger l → SameMembers (members (compositeOf l)) l
+pub members-compositeOf : (l : List Timestamp) → ((s : Timestamp) → s isIn l → s .logger < 8) → OnePerLogger l → SameMembers (members (compositeOf l)) l
 members-compositeOf l small u = (down, up)
   where
-    up : (s : Timestamp) → s ∈ l → s ∈ members (compositeOf l)
+    up : (s : Timestamp) → s isIn l → s isIn members (compositeOf l)
     up s m = members-in (compositeOf l) s (record {
       place = small s m;
       there = present-of l (s .logger) (small s m) ∙ any-in (ofLogger (s .logger)) l m (eq-eqb (s .logger) (s .logger) refl);
       tick = tick-of l (s .logger) (small s m) ∙ tickOf-in l s m u;
     })
 
-    down : (s : Timestamp) → s ∈ members (compositeOf l) → s ∈ l
+    down : (s : Timestamp) → s isIn members (compositeOf l) → s isIn l
     down s m =
         let h : Holds (compositeOf l) s = members-of (compositeOf l) s m in
         let (t, i, e) = any-of (ofLogger (s .logger)) l (sym (present-of l (s .logger) (h .place)) ∙ h .there) in
@@ -118,8 +118,8 @@ pub compositeOf-same : (l m : List Timestamp) → SameMembers l m → OnePerLogg
 unfolding compositeOf
 compositeOf-same l m w u = λ i. record { present = each-place _ _ (λ k h. there k) i; ticks = each-place _ _ (λ k h. told k) i }
   where
-    there : (k : ℕ) → any (ofLogger k) l ≡ any (ofLogger k) m
-    there k = same-test (any (ofLogger k) l) (any (ofLogger k) m)
+    there : (k : ℕ) → somePasses (ofLogger k) l ≡ somePasses (ofLogger k) m
+    there k = same-test (somePasses (ofLogger k) l) (somePasses (ofLogger k) m)
         (λ e. let (s, i, y) = any-of (ofLogger k) l e in any-in (ofLogger k) m (w .0 s i) y)
         (λ e. let (s, i, y) = any-of (ofLogger k) m e in any-in (ofLogger k) l (w .1 s i) y)
 
@@ -132,7 +132,7 @@ compositeOf-same l m w u = λ i. record { present = each-place _ _ (λ k h. ther
         let f : s .logger ≡ k = eqb-true (s .logger) k e in
         ap (tickOf l) (sym f) ∙ tickOf-in l s i u ∙ sym (tickOf-in m s (w .0 s i) one) ∙ ap (tickOf m) f)
         (λ n. tickOf-none l k n ∙ sym (tickOf-none m k (sym (there k) ∙ n)))
-        (either-way (any (ofLogger k) l))
+        (either-way (somePasses (ofLogger k) l))
 
 -- ---- a composite with the same members is the same value
 -- eight places, and no tick where there is no timestamp
@@ -144,7 +144,7 @@ pub record Canonical (c : CompositeTimestamp) : Type 0 where
 pub compositeOf-canonical : (l : List Timestamp) → Canonical (compositeOf l)
 unfolding compositeOf
 compositeOf-canonical l = record {
-  places = length-map loggerPlaces (λ k. any (ofLogger k) l) ∙ length-range 0 8;
+  places = length-map loggerPlaces (λ k. somePasses (ofLogger k) l) ∙ length-range 0 8;
   tick-places = length-map loggerPlaces (tickOf l) ∙ length-range 0 8;
   empty = λ k h e. tick-of l k h ∙ tickOf-none l k (sym (present-of l k h) ∙ e);
 }
@@ -155,7 +155,7 @@ members-determine a b p q w = λ i. record {
   ticks = ext-getD tickZero (a .ticks) (b .ticks) (p .tick-places ∙ sym (q .tick-places)) (λ k h. told k (rw (p .tick-places) at h)) i;
 }
   where
-    carried : (c d : CompositeTimestamp) (k : ℕ) → k < 8 → ((s : Timestamp) → s ∈ members c → s ∈ members d) → presentAt c k ≡ true → Holds d (stampAt c k)
+    carried : (c d : CompositeTimestamp) (k : ℕ) → k < 8 → ((s : Timestamp) → s isIn members c → s isIn members d) → presentAt c k ≡ true → Holds d (stampAt c k)
     carried c d k h f e = members-of d (stampAt c k) (f (stampAt c k) (stamp-in c k h e))
 
     there : (k : ℕ) → k < 8 → presentAt a k ≡ presentAt b k

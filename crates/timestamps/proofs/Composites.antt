@@ -3,8 +3,8 @@ use mathlib.Core.Path.{_≡_, refl, ap, ap₂, _∙_}
 use mathlib.Core.Bool.{true, false, not}
 use mathlib.Core.List.{List, [], _∷_, List·Memᴰ·eq-of-singleton, List·Memᴰ·head}
 use mathlib.Core.Logic.{⊎-elim}
-use Rattle.sequences.specs.Members.{_∈_, SameMembers}
-use Rattle.sequences.specs.Select.{any, all}
+use Rattle.sequences.specs.Members.{_isIn_, SameMembers}
+use Rattle.sequences.specs.Select.{somePasses, eachPasses}
 use Rattle.sequences.proofs.Booleans.{and-both, and-left, and-right, false-of-not-true, never-both}
 use Rattle.sequences.proofs.Select.{all-of, any-of}
 use Rattle.timestamps.specs.declared.Timestamp.{Timestamp}
@@ -30,7 +30,7 @@ module _ (clocks : Clocks) where
   concurrent-turned s t e = false-of-not-true _ (λ h. never-both (and-right (not (before clocks s t)) (not (before clocks t s)) e) (ap not h))
 
   -- none of a composite is before one of it
-  pub apart : (l : List Timestamp) → IsComposite clocks l → (s t : Timestamp) → s ∈ l → t ∈ l → before clocks s t ≡ false
+  pub apart : (l : List Timestamp) → IsComposite clocks l → (s t : Timestamp) → s isIn l → t isIn l → before clocks s t ≡ false
   apart l c s t i j = concurrent-not s t (c .pairwise s t i j)
 
   -- ---- what is a composite
@@ -41,13 +41,13 @@ module _ (clocks : Clocks) where
         ∙ concurrent-is s s (before-strict clocks .irreflexive s) (before-strict clocks .irreflexive s);
   }
 
-  pub maxima-composite : (l : List Timestamp) (s : Timestamp) → s ∈ l → IsComposite clocks (maxima (before clocks) l)
+  pub maxima-composite : (l : List Timestamp) (s : Timestamp) → s isIn l → IsComposite clocks (maxima (before clocks) l)
   maxima-composite l s m = record {
     some = ⊎-elim (λ i. (s, i)) (λ t. (t .0, t .1)) (maxima-reach (before clocks) (before-strict clocks) l s m);
     pairwise = λ x y i j. concurrent-is x y (none x y i j) (none y x j i);
   }
     where
-      none : (x y : Timestamp) → x ∈ maxima (before clocks) l → y ∈ maxima (before clocks) l → before clocks x y ≡ false
+      none : (x y : Timestamp) → x isIn maxima (before clocks) l → y isIn maxima (before clocks) l → before clocks x y ≡ false
       none x y i j = maxima-of (before clocks) l x i .1 y (maxima-of (before clocks) l y j .0)
 
   -- the same stamps in whatever order
@@ -59,21 +59,21 @@ module _ (clocks : Clocks) where
 
   -- ---- weakly before
   module _ (a b : List Timestamp) where
-    weakly : ((s t : Timestamp) → s ∈ a → t ∈ b → before clocks t s ≡ true → ⊥) → weaklyBefore clocks a b ≡ true
+    weakly : ((s t : Timestamp) → s isIn a → t isIn b → before clocks t s ≡ true → ⊥) → weaklyBefore clocks a b ≡ true
     unfolding weaklyBefore
     weakly f = ap not (false-of-not-true _ (λ h.
-        let (t, j, e) = any-of (λ t. any (λ s. before clocks t s) a) b h in
+        let (t, j, e) = any-of (λ t. somePasses (λ s. before clocks t s) a) b h in
         let (s, i, g) = any-of (λ s. before clocks t s) a e in
         f s t i j g))
 
     pub before-weakly : IsComposite clocks a → allBefore clocks a b ≡ true → weaklyBefore clocks a b ≡ true
     unfolding allBefore
     before-weakly c h = weakly (λ s t i j g.
-        let (u, k, e) = any-of (λ s. before clocks s t) a (all-of (λ t. any (λ s. before clocks s t) a) b h j) in
+        let (u, k, e) = any-of (λ s. before clocks s t) a (all-of (λ t. somePasses (λ s. before clocks s t) a) b h j) in
         never-both (before-strict clocks .transitive u t s e g) (apart a c u s k i))
 
     pub concurrent-weakly : allConcurrent clocks a b ≡ true → weaklyBefore clocks a b ≡ true
     unfolding allConcurrent
     concurrent-weakly h = weakly (λ s t i j g.
-        let e = all-of (λ s. concurrent clocks s t) a (all-of (λ t. all (λ s. concurrent clocks s t) a) b h j) i in
+        let e = all-of (λ s. concurrent clocks s t) a (all-of (λ t. eachPasses (λ s. concurrent clocks s t) a) b h j) i in
         never-both g (concurrent-turned s t e))

@@ -2,8 +2,8 @@
 use mathlib.Core.Path.{_≡_, refl}
 use mathlib.Core.Bool.{true, false}
 use mathlib.Core.List.{[], _∷_}
-use Rattle.sequences.specs.Range.{range}
-use Rattle.sequences.specs.Select.{filter, any, all}
+use Rattle.sequences.specs.Range.{numbersFrom}
+use Rattle.sequences.specs.Select.{filter, somePasses, eachPasses}
 use Rattle.timestamps.specs.Comparison.{allBefore, allConcurrent, weaklyBefore}
 use Rattle.timestamps.specs.Composite.{members, tickOf, compositeOf}
 use Rattle.timestamps.specs.Examples.{holds, table, sameStamps, stamped, maxOf59}
@@ -12,19 +12,19 @@ use Rattle.timestamps.specs.Maxima.{maxima}
 use Rattle.timestamps.specs.Order.{clocksOf, before, concurrent, clearlyEarlier, globalOf}
 
 -- every row of the table
-pub table-holds : all holds table ≡ true
-unfolding all any filter range holds table sameStamps members tickOf compositeOf joinOf groupJoin maxima before concurrent clearlyEarlier globalOf allBefore allConcurrent weaklyBefore
+pub table-holds : eachPasses holds table ≡ true
+unfolding eachPasses somePasses filter numbersFrom holds table sameStamps members tickOf compositeOf joinOf groupJoin maxima before concurrent clearlyEarlier globalOf allBefore allConcurrent weaklyBefore
 table-holds = refl
 
 -- pair by pair with Definition 5.9 the result depends on the grouping, and one of the two is not the join (J4)
 pub pairs-left : sameStamps (members (maxOf59 (clocksOf 10) (maxOf59 (clocksOf 10) (compositeOf (stamped 1 80 ∷ [])) (compositeOf (stamped 2 90 ∷ []))) (compositeOf (stamped 3 100 ∷ [])))) (stamped 3 100 ∷ []) ≡ true
-unfolding all any filter range sameStamps members tickOf compositeOf joinOf maxima before clearlyEarlier globalOf allBefore maxOf59
+unfolding eachPasses somePasses filter numbersFrom sameStamps members tickOf compositeOf joinOf maxima before clearlyEarlier globalOf allBefore maxOf59
 pairs-left = refl
 
 pub pairs-right : sameStamps (members (maxOf59 (clocksOf 10) (compositeOf (stamped 1 80 ∷ [])) (maxOf59 (clocksOf 10) (compositeOf (stamped 2 90 ∷ [])) (compositeOf (stamped 3 100 ∷ []))))) (stamped 2 90 ∷ stamped 3 100 ∷ []) ≡ true
-unfolding all any filter range sameStamps members tickOf compositeOf joinOf maxima before clearlyEarlier globalOf allBefore maxOf59
+unfolding eachPasses somePasses filter numbersFrom sameStamps members tickOf compositeOf joinOf maxima before clearlyEarlier globalOf allBefore maxOf59
 pairs-right = refl
 
 pub pairs-wrong : sameStamps (members (joinOf (clocksOf 10) (stamped 1 80 ∷ stamped 2 90 ∷ stamped 3 100 ∷ []))) (stamped 3 100 ∷ []) ≡ false
-unfolding all any filter range sameStamps members tickOf compositeOf joinOf maxima before clearlyEarlier globalOf
+unfolding eachPasses somePasses filter numbersFrom sameStamps members tickOf compositeOf joinOf maxima before clearlyEarlier globalOf
 pairs-wrong = refl

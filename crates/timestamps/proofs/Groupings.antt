@@ -7,8 +7,8 @@ use Prim.Native.Nat.{ℕ, _≤_, _<_}
 use native.Mathlib.Omega.{arith}
 use lib.Dec.{leb}
 use borrow.Author.Tests.{leb-true}
-use Rattle.sequences.specs.Members.{_∈_, SameMembers}
-use Rattle.sequences.specs.Select.{all}
+use Rattle.sequences.specs.Members.{_isIn_, SameMembers}
+use Rattle.sequences.specs.Select.{eachPasses}
 use Rattle.sequences.proofs.Booleans.{and-left, and-right}
 use Rattle.sequences.proofs.Select.{all-of}
 use Rattle.timestamps.specs.declared.Timestamp.{Timestamp}
@@ -29,7 +29,7 @@ pub valid-tick : (s : Timestamp) → valid s ≡ true → s .tick .0 ≤ largest
 unfolding valid
 valid-tick s v = leb-true (s .tick .0) largestTick (and-right (leb (s .logger) 7) (leb (s .tick .0) largestTick) v)
 
-pub valid-placeable : (l : List Timestamp) → all valid l ≡ true → Placeable l
+pub valid-placeable : (l : List Timestamp) → eachPasses valid l ≡ true → Placeable l
 valid-placeable l v s m = valid-place s (all-of valid l v m)
 
 first-part : (l m : List Timestamp) → Placeable (l ++ m) → Placeable l
@@ -62,8 +62,8 @@ grouping-join clocks (group ps) h = joinOf-covered clocks (partJoins clocks ps) 
 
 -- ---- the theorem: for one valid ratio and any grouping of valid stamps, of any size and depth, the stamps of the join are exactly those of
 -- the grouping that are before none of it
-pub grouping-latest : (ratio : ℕ) (g : Grouping) → validRatio ratio ≡ true → all valid (leaves g) ≡ true
-    → (s : Timestamp) → (s ∈ members (groupJoin (clocksOf ratio) g)) ↔ ((s ∈ leaves g) × ((t : Timestamp) → t ∈ leaves g → before (clocksOf ratio) s t ≡ false))
+pub grouping-latest : (ratio : ℕ) (g : Grouping) → validRatio ratio ≡ true → eachPasses valid (leaves g) ≡ true
+    → (s : Timestamp) → (s isIn members (groupJoin (clocksOf ratio) g)) ↔ ((s isIn leaves g) × ((t : Timestamp) → t isIn leaves g → before (clocksOf ratio) s t ≡ false))
 grouping-latest ratio g r v s =
     let h : Placeable (leaves g) = valid-placeable (leaves g) v in
     let w : SameMembers (members (joinOf (clocksOf ratio) (leaves g))) (maxima (before (clocksOf ratio)) (leaves g)) = members-joinOf (clocksOf ratio) (leaves g) h in
@@ -71,7 +71,7 @@ grouping-latest ratio g r v s =
     (λ m. maxima-of (before (clocksOf ratio)) (leaves g) s (w .0 s m), λ p. w .1 s (maxima-in (before (clocksOf ratio)) (leaves g) s (p .0) (p .1)))
 
 -- in whichever order and however often each stamp is repeated
-pub grouping-same : (ratio : ℕ) (g h : Grouping) → validRatio ratio ≡ true → all valid (leaves g) ≡ true → all valid (leaves h) ≡ true
+pub grouping-same : (ratio : ℕ) (g h : Grouping) → validRatio ratio ≡ true → eachPasses valid (leaves g) ≡ true → eachPasses valid (leaves h) ≡ true
     → SameMembers (leaves g) (leaves h) → groupJoin (clocksOf ratio) g ≡ groupJoin (clocksOf ratio) h
 grouping-same ratio g h r v w same =
     grouping-join (clocksOf ratio) g (valid-placeable (leaves g) v) ∙ joinOf-same (clocksOf ratio) (leaves g) (leaves h) same ∙ sym (grouping-join (clocksOf ratio) h (valid-placeable (leaves h) w))

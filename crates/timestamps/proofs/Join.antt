@@ -4,7 +4,7 @@ use mathlib.Core.List.{List, [], _∷_, _++_, List·Memᴰ·eq-of-singleton}
 use Prim.Native.Nat.{ℕ, _+_, _≤_, _<_}
 use native.Mathlib.Omega.{arith}
 use borrow.Author.Tests.{ltb-false}
-use Rattle.sequences.specs.Members.{_∈_, SameMembers}
+use Rattle.sequences.specs.Members.{_isIn_, SameMembers}
 use Rattle.timestamps.specs.declared.Timestamp.{Timestamp}
 use Rattle.timestamps.specs.declared.CompositeTimestamp.{CompositeTimestamp}
 use Rattle.timestamps.specs.Composite.{members, compositeOf}
@@ -17,7 +17,7 @@ use Rattle.timestamps.proofs.Order.{before-one, before-irrefl, before-s
 
 -- every stamp of the list has one of the eight logger places
 abbrev pub Placeable : List Timestamp → Type 0
-Placeable l = (s : Timestamp) → s ∈ l → s .logger < 8
+Placeable l = (s : Timestamp) → s isIn l → s .logger < 8
 
 module _ (clocks : Clocks) where
   -- ---- the greatest timestamps have at most one of each logger
@@ -62,10 +62,10 @@ module _ (clocks : Clocks) where
   unfolding joinOf
   joinOf-one s = compositeOf-same (maxima (before clocks) (s ∷ [])) (s ∷ []) (down, up) (maxima-one (s ∷ []))
     where
-      down : (t : Timestamp) → t ∈ maxima (before clocks) (s ∷ []) → t ∈ (s ∷ [])
+      down : (t : Timestamp) → t isIn maxima (before clocks) (s ∷ []) → t isIn (s ∷ [])
       down t m = maxima-of (before clocks) (s ∷ []) t m .0
 
-      up : (t : Timestamp) → t ∈ (s ∷ []) → t ∈ maxima (before clocks) (s ∷ [])
+      up : (t : Timestamp) → t isIn (s ∷ []) → t isIn maxima (before clocks) (s ∷ [])
       up t m = maxima-in (before clocks) (s ∷ []) t m (λ u n.
           let e : t ≡ s = List·Memᴰ·eq-of-singleton m in
           let f : u ≡ s = List·Memᴰ·eq-of-singleton n in

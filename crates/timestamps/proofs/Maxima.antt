@@ -4,28 +4,28 @@ use mathlib.Core.Bool.{Bool, true, false, not}
 use mathlib.Core.List.{List, [], _∷_, _++_, List·Memᴰ·head, List·Memᴰ·tail, List·Memᴰ·cases-cons, List·Memᴰ·not-nil, Memᴰ·cast, Memᴰ·append-left, Memᴰ·append-right, List·Memᴰ·append-cases}
 use mathlib.Core.Logic.{_⊎_, inl, inr, ⊎-elim}
 use borrow.Author.Tests.{not-true}
-use Rattle.sequences.specs.Members.{_∈_, SameMembers}
-use Rattle.sequences.specs.Select.{any}
+use Rattle.sequences.specs.Members.{_isIn_, SameMembers}
+use Rattle.sequences.specs.Select.{somePasses}
 use Rattle.sequences.proofs.Booleans.{either-way, never-both, false-of-not-true}
 use Rattle.sequences.proofs.Select.{filter-in, filter-of, any-none, none-of-any}
 use Rattle.timestamps.specs.Maxima.{maxima, StrictOrder}
 
 module _ {A : Type 0} (R : A → A → Bool) where
   -- ---- membership says exactly that: an element of the list that is below none of it
-  pub maxima-of : (l : List A) (a : A) → a ∈ maxima R l → (a ∈ l) × ((b : A) → b ∈ l → R a b ≡ false)
+  pub maxima-of : (l : List A) (a : A) → a isIn maxima R l → (a isIn l) × ((b : A) → b isIn l → R a b ≡ false)
   unfolding maxima
   maxima-of l a m =
-      let f : (a ∈ l) × (not (any (R a) l) ≡ true) = filter-of (λ x. not (any (R x) l)) l m in
-      (f .0, λ b n. none-of-any (R a) l (not-true (any (R a) l) (f .1)) n)
+      let f : (a isIn l) × (not (somePasses (R a) l) ≡ true) = filter-of (λ x. not (somePasses (R x) l)) l m in
+      (f .0, λ b n. none-of-any (R a) l (not-true (somePasses (R a) l) (f .1)) n)
 
-  pub maxima-in : (l : List A) (a : A) → a ∈ l → ((b : A) → b ∈ l → R a b ≡ false) → a ∈ maxima R l
+  pub maxima-in : (l : List A) (a : A) → a isIn l → ((b : A) → b isIn l → R a b ≡ false) → a isIn maxima R l
   unfolding maxima
-  maxima-in l a m h = filter-in (λ x. not (any (R x) l)) l m (rw (any-none (R a) l h))
+  maxima-in l a m h = filter-in (λ x. not (somePasses (R x) l)) l m (rw (any-none (R a) l h))
 
   -- ---- k covers l: it has only elements of l, and each element of l is in k or below one of k
   pub record Covers (k l : List A) : Type 0 where
-    pub within : (a : A) → a ∈ k → a ∈ l
-    pub reached : (a : A) → a ∈ l → (a ∈ k) ⊎ ((c : A) × (c ∈ k) × (R a c ≡ true))
+    pub within : (a : A) → a isIn k → a isIn l
+    pub reached : (a : A) → a isIn l → (a isIn k) ⊎ ((c : A) × (c isIn k) × (R a c ≡ true))
 
   pub covers-same : {k l : List A} → SameMembers k l → Covers k l
   covers-same s = record { within = s .0; reached = λ a m. inl (s .1 a m) }
@@ -36,11 +36,11 @@ module _ {A : Type 0} (R : A → A → Bool) where
     reached = λ a i. ⊎-elim (λ x. first a (p .reached a x)) (λ y. second a (q .reached a y)) (List·Memᴰ·append-cases l i);
   }
     where
-      first : (a : A) → (a ∈ k) ⊎ ((c : A) × (c ∈ k) × (R a c ≡ true)) → (a ∈ (k ++ m)) ⊎ ((c : A) × (c ∈ (k ++ m)) × (R a c ≡ true))
+      first : (a : A) → (a isIn k) ⊎ ((c : A) × (c isIn k) × (R a c ≡ true)) → (a isIn (k ++ m)) ⊎ ((c : A) × (c isIn (k ++ m)) × (R a c ≡ true))
       first a (inl i) = inl (Memᴰ·append-left m i)
       first a (inr t) = inr (t .0, Memᴰ·append-left m (t .1), t .2)
 
-      second : (a : A) → (a ∈ m) ⊎ ((c : A) × (c ∈ m) × (R a c ≡ true)) → (a ∈ (k ++ m)) ⊎ ((c : A) × (c ∈ (k ++ m)) × (R a c ≡ true))
+      second : (a : A) → (a isIn m) ⊎ ((c : A) × (c isIn m) × (R a c ≡ true)) → (a isIn (k ++ m)) ⊎ ((c : A) × (c isIn (k ++ m)) × (R a c ≡ true))
       second a (inl i) = inl (Memᴰ·append-right k i)
       second a (inr t) = inr (t .0, Memᴰ·append-right k (t .1), t .2)
 
@@ -51,7 +51,7 @@ module _ {A : Type 0} (R : A → A → Bool) (𝓞 : StrictOrder R) where
     reached = λ a i. ⊎-elim (λ x. p .reached a x) (λ t. above a (t .0) (t .2) (p .reached (t .0) (t .1))) (q .reached a i);
   }
     where
-      above : (a c : A) → R a c ≡ true → (c ∈ k) ⊎ ((d : A) × (d ∈ k) × (R c d ≡ true)) → (a ∈ k) ⊎ ((d : A) × (d ∈ k) × (R a d ≡ true))
+      above : (a c : A) → R a c ≡ true → (c isIn k) ⊎ ((d : A) × (d isIn k) × (R c d ≡ true)) → (a isIn k) ⊎ ((d : A) × (d isIn k) × (R a d ≡ true))
       above a c e (inl i) = inr (c, i, e)
       above a c e (inr t) = inr (t .0, t .1, 𝓞 .transitive a c (t .0) e (t .2))
 
@@ -59,20 +59,20 @@ module _ {A : Type 0} (R : A → A → Bool) (𝓞 : StrictOrder R) where
   pub maxima-covered : (k l : List A) → Covers R k l → SameMembers (maxima R k) (maxima R l)
   maxima-covered k l p = (up, down)
     where
-      beyond : (a b : A) → ((c : A) → c ∈ k → R a c ≡ false) → (b ∈ k) ⊎ ((c : A) × (c ∈ k) × (R b c ≡ true)) → R a b ≡ true → ⊥
+      beyond : (a b : A) → ((c : A) → c isIn k → R a c ≡ false) → (b isIn k) ⊎ ((c : A) × (c isIn k) × (R b c ≡ true)) → R a b ≡ true → ⊥
       beyond a b h (inl i) e = never-both e (h b i)
       beyond a b h (inr t) e = never-both (𝓞 .transitive a b (t .0) e (t .2)) (h (t .0) (t .1))
 
-      up : (a : A) → a ∈ maxima R k → a ∈ maxima R l
+      up : (a : A) → a isIn maxima R k → a isIn maxima R l
       up a m =
           let (i, h) = maxima-of R k a m in
           maxima-in R l a (p .within a i) (λ b j. false-of-not-true (R a b) (beyond a b h (p .reached b j)))
 
-      kept : (a : A) → ((b : A) → b ∈ l → R a b ≡ false) → (a ∈ k) ⊎ ((c : A) × (c ∈ k) × (R a c ≡ true)) → a ∈ k
+      kept : (a : A) → ((b : A) → b isIn l → R a b ≡ false) → (a isIn k) ⊎ ((c : A) × (c isIn k) × (R a c ≡ true)) → a isIn k
       kept a h (inl i) = i
       kept a h (inr t) = absurd (never-both (t .2) (h (t .0) (p .within (t .0) (t .1))))
 
-      down : (a : A) → a ∈ maxima R l → a ∈ maxima R k
+      down : (a : A) → a isIn maxima R l → a isIn maxima R k
       down a m =
           let (i, h) = maxima-of R l a m in
           maxima-in R k a (kept a h (p .reached a i)) (λ b j. h b (p .within b j))
@@ -81,9 +81,9 @@ module _ {A : Type 0} (R : A → A → Bool) (𝓞 : StrictOrder R) where
   -- from c upwards through l: what is reached is below none of l
   record Climbed (c : A) (l : List A) : Type 0 where
     top : A
-    from : (top ≡ c) ⊎ (top ∈ l)
+    from : (top ≡ c) ⊎ (top isIn l)
     over : (c ≡ top) ⊎ (R c top ≡ true)
-    best : (x : A) → x ∈ l → R top x ≡ false
+    best : (x : A) → x isIn l → R top x ≡ false
 
   climb : (c : A) (l : List A) → Climbed c l
   climb c [] = record { top = c; from = inl refl; over = inl refl; best = λ x m. absurd (List·Memᴰ·not-nil m) }
@@ -119,11 +119,11 @@ module _ {A : Type 0} (R : A → A → Bool) (𝓞 : StrictOrder R) where
             (List·Memᴰ·cases-cons m);
       }
 
-  pub maxima-reach : (l : List A) (a : A) → a ∈ l → (a ∈ maxima R l) ⊎ ((c : A) × (c ∈ maxima R l) × (R a c ≡ true))
+  pub maxima-reach : (l : List A) (a : A) → a isIn l → (a isIn maxima R l) ⊎ ((c : A) × (c isIn maxima R l) × (R a c ≡ true))
   maxima-reach l a m =
       let k : Climbed a l = climb a l in
-      let i : k .top ∈ l = ⊎-elim (λ e. Memᴰ·cast e m) (λ j. j) (k .from) in
-      let g : k .top ∈ maxima R l = maxima-in R l (k .top) i (k .best) in
+      let i : k .top isIn l = ⊎-elim (λ e. Memᴰ·cast e m) (λ j. j) (k .from) in
+      let g : k .top isIn maxima R l = maxima-in R l (k .top) i (k .best) in
       ⊎-elim (λ e. inl (Memᴰ·cast e g)) (λ u. inr (k .top, g, u)) (k .over)
 
   pub maxima-covers : (l : List A) → Covers R (maxima R l) l

@@ -4,11 +4,11 @@ use mathlib.Core.List.{List, [], _∷_, map}
 use mathlib.Core.Path.{_≡_}
 use Prim.Native.Nat.{ℕ}
 use lib.Dec.{eqb}
-use lib.ListN.{getD, replicate}
+use lib.ListN.{getD}
 use Rattle.sequences.specs.Choice.{pick}
-use Rattle.sequences.specs.Members.{_∈_}
-use Rattle.sequences.specs.Range.{range}
-use Rattle.sequences.specs.Select.{filter, any}
+use Rattle.sequences.specs.Members.{_isIn_}
+use Rattle.sequences.specs.Range.{numbersFrom}
+use Rattle.sequences.specs.Select.{filter, somePasses}
 use Rattle.timestamps.specs.declared.LocalTick.{LocalTick}
 use Rattle.timestamps.specs.declared.Timestamp.{Timestamp}
 use Rattle.timestamps.specs.declared.CompositeTimestamp.{CompositeTimestamp}
@@ -16,7 +16,7 @@ use Rattle.timestamps.specs.Order.{Clocks, concurrent}
 
 -- the eight logger places
 abbrev pub loggerPlaces : List ℕ
-loggerPlaces = range 0 8
+loggerPlaces = numbersFrom 0 8
 
 abbrev pub tickZero : LocalTick
 tickZero = record { 0 = 0 }
@@ -43,13 +43,9 @@ tickOf (s ∷ l) k = pick (ofLogger k s) (s .tick) (tickOf l k)
 
 -- the composite with the stamps of a list that has at most one for each logger place
 unfoldable pub compositeOf : List Timestamp → CompositeTimestamp
-compositeOf l = record { present = map (λ k. any (ofLogger k) l) loggerPlaces; ticks = map (tickOf l) loggerPlaces }
-
--- no stamps
-abbrev pub noTimestamps : CompositeTimestamp
-noTimestamps = record { present = replicate 8 false; ticks = replicate 8 tickZero }
+compositeOf l = record { present = map (λ k. somePasses (ofLogger k) l) loggerPlaces; ticks = map (tickOf l) loggerPlaces }
 
 -- a composite stamp, by its stamps: there is one, and they are pairwise concurrent
 pub record IsComposite (clocks : Clocks) (l : List Timestamp) : Type 0 where
-  pub some : (s : Timestamp) × (s ∈ l)
-  pub pairwise : (s t : Timestamp) → s ∈ l → t ∈ l → concurrent clocks s t ≡ true
+  pub some : (s : Timestamp) × (s isIn l)
+  pub pairwise : (s t : Timestamp) → s isIn l → t isIn l → concurrent clocks s t ≡ true

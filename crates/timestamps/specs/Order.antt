@@ -41,9 +41,12 @@ before clocks s t =
 unfoldable pub concurrent : Clocks → Timestamp → Timestamp → Bool
 concurrent clocks s t = not (before clocks s t) && not (before clocks t s)
 
--- a local tick is at most 2^63 − 1
+-- a local tick is below the limit, and at most 2^63 − 1
+abbrev pub tickLimit : ℕ
+tickLimit = 2 ^ 63
+
 abbrev pub largestTick : ℕ
-largestTick = 2 ^ 63 - 1
+largestTick = tickLimit - 1
 
 -- a stamp that 36 lets pass: a logger place of 0 to 7 and a tick below 2^63
 unfoldable pub valid : Timestamp → Bool

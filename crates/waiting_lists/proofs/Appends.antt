@@ -9,7 +9,7 @@ use native.Mathlib.Omega.{arith}
 use borrow.Author.Tests.{le-leb, lt-leb}
 use lib.ListN.{length, length-map, set}
 use lib.Seq.{getD-set-other, getD-set-same, set-out}
-use Rattle.sequences.specs.Range.{range}
+use Rattle.sequences.specs.Range.{numbersFrom}
 use Rattle.sequences.proofs.Members.{map-same}
 use Rattle.sequences.proofs.Range.{length-range, range-next, range-none, range-of, range-split}
 use Rattle.waiting_lists.specs.declared.WaitingList.{WaitingList}
@@ -43,11 +43,11 @@ module _ (list : WaitingList) where
           let f : List (List ℕ) → ℕ → List ℕ = λ v i. at v (placeIn (list .order) i) in
           let free : n < length w - 1 = ⊎-elim (λ r. omega arith) (λ r. omega arith) room in
           let there : placeIn (list .order) n + 1 < length w = omega (arith, p .inside n free) in
-          let last : map (f w′) (range (0 + n) 1) ≡ o ∷ [] = rw (zero-add n, range-next n 0, range-none (n + 1), getD-set-same w (placeIn (list .order) n + 1) o [] there) in
-          let before : map (f w′) (range 0 n) ≡ map (f w) (range 0 n) = map-same (f w′) (f w) (range 0 n)
+          let last : map (f w′) (numbersFrom (0 + n) 1) ≡ o ∷ [] = rw (zero-add n, range-next n 0, range-none (n + 1), getD-set-same w (placeIn (list .order) n + 1) o [] there) in
+          let before : map (f w′) (numbersFrom 0 n) ≡ map (f w) (numbersFrom 0 n) = map-same (f w′) (f w) (numbersFrom 0 n)
           (λ i m. getD-set-other w (placeIn (list .order) n + 1) (placeIn (list .order) i + 1) o [] (λ e. p .distinct i n (omega (arith, range-of 0 n m .1)) free (omega (arith, e)))) in
-          ap (map (f w′)) (range-split 0 n 1) ∙ map-append (f w′) (range 0 n) (range (0 + n) 1) ∙ ap₂ _++_ before last
-          ∙ sym (appended-room (map (f w) (range 0 n)) o (omega (arith, length-map (range 0 n) (f w), length-range 0 n, h)) .1)
+          ap (map (f w′)) (range-split 0 n 1) ∙ map-append (f w′) (numbersFrom 0 n) (numbersFrom (0 + n) 1) ∙ ap₂ _++_ before last
+          ∙ sym (appended-room (map (f w) (numbersFrom 0 n)) o (omega (arith, length-map (numbersFrom 0 n) (f w), length-range 0 n, h)) .1)
 
       placed : (places : ℕ) → Placed list places → (list .len < places) ⊎ (places ≡ 16) → Placed (record { order = list .order; len = list .len + 1 }) places
       placed places p room = record { few = ⊎-elim (λ r. omega arith) (λ r. omega arith) room; most = p .most; inside = p .inside; distinct = p .distinct }

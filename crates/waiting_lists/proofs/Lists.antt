@@ -8,7 +8,7 @@ use native.Mathlib.Omega.{arith}
 use borrow.Author.Tests.{ne-eqb}
 use lib.ListN.{getD, length, length-map, length-set, set}
 use lib.Seq.{getD-set-other, getD-set-same}
-use Rattle.sequences.specs.Range.{range}
+use Rattle.sequences.specs.Range.{numbersFrom}
 use Rattle.sequences.proofs.Members.{map-same}
 use Rattle.sequences.proofs.Parts.{getD-map}
 use Rattle.sequences.proofs.Range.{getD-range, length-range, range-of}
@@ -24,7 +24,7 @@ at w place = getD w (place + 1) []
 -- what stands at the places
 pub waiters-are : (list : WaitingList) (w : List (List ℕ)) → waitersOf list w ≡ map (at w) (firsts (list .len) (list .order))
 unfolding waitersOf
-waiters-are list w = go (range 0 (list .len))
+waiters-are list w = go (numbersFrom 0 (list .len))
   where
     go : (l : List ℕ) → map (λ i. at w (placeIn (list .order) i)) l ≡ map (at w) (map (placeIn (list .order)) l)
     go [] = refl
@@ -32,12 +32,12 @@ waiters-are list w = go (range 0 (list .len))
 
 pub length-waiters : (list : WaitingList) (w : List (List ℕ)) → length (waitersOf list w) ≡ list .len
 unfolding waitersOf
-length-waiters list w = length-map (range 0 (list .len)) (λ i. at w (placeIn (list .order) i)) ∙ length-range 0 (list .len)
+length-waiters list w = length-map (numbersFrom 0 (list .len)) (λ i. at w (placeIn (list .order) i)) ∙ length-range 0 (list .len)
 
 pub waiter-in : (list : WaitingList) (w : List (List ℕ)) (i : ℕ) → i < list .len → getD (waitersOf list w) i [] ≡ getD w (placeIn (list .order) i + 1) []
 unfolding waitersOf
 waiter-in list w i h =
-    getD-map (λ j. at w (placeIn (list .order) j)) (range 0 (list .len)) i 0 [] (omega (arith, length-range 0 (list .len)))
+    getD-map (λ j. at w (placeIn (list .order) j)) (numbersFrom 0 (list .len)) i 0 [] (omega (arith, length-range 0 (list .len)))
     ∙ ap (λ j. at w (placeIn (list .order) j)) (getD-range 0 (list .len) i 0 h ∙ zero-add i)
 
 -- ---- the list as it is kept
@@ -86,7 +86,7 @@ module _ (v : List (List ℕ)) (list : WaitingList) (some : 0 < length v) (p : P
   waiters-kept =
       let f = p .few in
       ap (λ l. waitersOf l kept) list-kept
-      ∙ map-same (λ i. at kept (placeIn (orderOf (list .order)) i)) (λ i. at v (placeIn (list .order) i)) (range 0 (list .len))
+      ∙ map-same (λ i. at kept (placeIn (orderOf (list .order)) i)) (λ i. at v (placeIn (list .order) i)) (numbersFrom 0 (list .len))
       (λ i m. ap (at kept) (same i (omega (arith, range-of 0 (list .len) m .1, f)))
       ∙ getD-set-other v 0 (placeIn (list .order) i + 1) (list .order ∷ list .len ∷ 0 ∷ []) [] (λ e. omega (arith, e)))
 

@@ -12,8 +12,8 @@ use lib.Dec.{eqb, leb, ltb}
 use lib.ListN.{getD, length, length-map}
 use lib.Pow.{field, high, low, mod-mod-pow, pow-add, pow-mono, pow-pos, shl-exact, shl-lt, shr-lt, shr-shr}
 use Rattle.sequences.specs.Choice.{pick}
-use Rattle.sequences.specs.Range.{range}
-use Rattle.sequences.specs.Select.{all}
+use Rattle.sequences.specs.Range.{numbersFrom}
+use Rattle.sequences.specs.Select.{eachPasses}
 use Rattle.sequences.proofs.Parts.{getD-map}
 use Rattle.sequences.proofs.Range.{getD-range, length-range, range-in}
 use Rattle.sequences.proofs.Select.{all-of}
@@ -165,20 +165,20 @@ module _ (a r i last places : ℕ) (o : i ≤ last) (l : last < places) (most : 
       ]
 
 -- ---- the order at first: each place at its own number
-each-first : all (λ j. eqb (placeIn 18364758544493064720 j) j) (range 0 16) ≡ true
-unfolding placeIn range all
+each-first : eachPasses (λ j. eqb (placeIn 18364758544493064720 j) j) (numbersFrom 0 16) ≡ true
+unfolding placeIn numbersFrom eachPasses
 each-first = refl
 
 pub place-first : (i : ℕ) → i < 16 → placeIn 18364758544493064720 i ≡ i
-place-first i h = eqb-true (placeIn 18364758544493064720 i) i (all-of (λ j. eqb (placeIn 18364758544493064720 j) j) (range 0 16) each-first (range-in 0 16 i (omega arith) (omega arith)))
+place-first i h = eqb-true (placeIn 18364758544493064720 i) i (all-of (λ j. eqb (placeIn 18364758544493064720 j) j) (numbersFrom 0 16) each-first (range-in 0 16 i (omega arith) (omega arith)))
 
 -- ---- the first n places
 
 abbrev pub firsts : ℕ → ℕ → List ℕ
-firsts n a = map (placeIn a) (range 0 n)
+firsts n a = map (placeIn a) (numbersFrom 0 n)
 
 pub length-firsts : (n a : ℕ) → length (firsts n a) ≡ n
-length-firsts n a = length-map (range 0 n) (placeIn a) ∙ length-range 0 n
+length-firsts n a = length-map (numbersFrom 0 n) (placeIn a) ∙ length-range 0 n
 
 pub firsts-at : (n a i : ℕ) → i < n → getD (firsts n a) i 0 ≡ placeIn a i
-firsts-at n a i h = getD-map (placeIn a) (range 0 n) i 0 0 (omega (arith, length-range 0 n)) ∙ ap (placeIn a) (getD-range 0 n i 0 h ∙ zero-add i)
+firsts-at n a i h = getD-map (placeIn a) (numbersFrom 0 n) i 0 0 (omega (arith, length-range 0 n)) ∙ ap (placeIn a) (getD-range 0 n i 0 h ∙ zero-add i)

@@ -7,7 +7,7 @@ use lib.Dec.{leb}
 use lib.ListN.{length-map}
 use Rattle.sequences.specs.Choice.{pick}
 use Rattle.sequences.specs.Marks.{unmarked}
-use Rattle.sequences.specs.Members.{_∈_}
+use Rattle.sequences.specs.Members.{_isIn_}
 use Rattle.sequences.proofs.Booleans.{either-way}
 use Rattle.sequences.proofs.Marks.{order-in, unmarked-order}
 use Rattle.waiting_lists.specs.Waiting.{appendedTo, isFull}
@@ -26,7 +26,7 @@ module _ {A B : Type 0} (f : A → B) where
       go false = map-append f l (a ∷ [])
 
 -- what waits after an append waited before, or is the new one
-pub appended-of : {A : Type 0} (l : List A) (a b : A) → b ∈ appendedTo l a → (b ∈ l) ⊎ (b ≡ a)
+pub appended-of : {A : Type 0} (l : List A) (a b : A) → b isIn appendedTo l a → (b isIn l) ⊎ (b ≡ a)
 unfolding appendedTo
 appended-of l a b m =
     ⊎-elim
@@ -35,5 +35,5 @@ appended-of l a b m =
     (either-way (isFull l))
 
 -- what is not marked was in the list
-pub unmarked-of : {A : Type 0} {b : A} (l : List A) (m : List Bool) → b ∈ unmarked l m → b ∈ l
+pub unmarked-of : {A : Type 0} {b : A} (l : List A) (m : List Bool) → b isIn unmarked l m → b isIn l
 unmarked-of l m = order-in (unmarked-order l m)

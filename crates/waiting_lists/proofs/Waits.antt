@@ -6,7 +6,7 @@ use native.Mathlib.Omega.{arith}
 use lib.ListN.{getD, length}
 use Rattle.sequences.proofs.Range.{range-none}
 use Rattle.occurrences.specs.declared.Occurrence.{Occurrence}
-use Rattle.occurrences.specs.Occurrences.{blank}
+use Rattle.occurrences.specs.Occurrences.{noOccurrence}
 use Rattle.occurrences.specs.Packed.{Notes, Stand, Stands, Within}
 use Rattle.occurrences.proofs.Packed.{stand-at, stand-length, stand-none, stands-within}
 use Rattle.waiting_lists.specs.declared.WaitingList.{WaitingList}
@@ -30,10 +30,10 @@ module _ {ticks globals : List ℕ} (t : Notes ticks globals) (w : List (List �
   pub waits-place : (i : ℕ) → i < length l → placeIn (listOf w .order) i + 1 < length w
   waits-place i k = let f = h .placed .few in omega (arith, h .placed .inside i (omega (arith, waits-length, k, f)))
 
-  pub waits-at : (i : ℕ) → i < length l → Stands t (getD w (placeIn (listOf w .order) i + 1) []) (getD l i blank)
+  pub waits-at : (i : ℕ) → i < length l → Stands t (getD w (placeIn (listOf w .order) i + 1) []) (getD l i noOccurrence)
   waits-at i k =
       let j : i < listOf w .len = omega (arith, waits-length, k) in
-      subst (λ p. Stands t p (getD l i blank)) (waiter-at w i j) (stand-at t (waitersOf (listOf w) w) l i (h .stand) (omega (arith, length-waiters (listOf w) w, j)))
+      subst (λ p. Stands t p (getD l i noOccurrence)) (waiter-at w i j) (stand-at t (waitersOf (listOf w) w) l i (h .stand) (omega (arith, length-waiters (listOf w) w, j)))
 
   pub waits-bytes : (i : ℕ) → i < length l → Within ticks globals (getD w (placeIn (listOf w .order) i + 1) [])
   waits-bytes i k = stands-within t _ _ (waits-at i k)
@@ -79,8 +79,8 @@ module _ {ticks globals : List ℕ} (t : Notes ticks globals) (w : List (List �
     pub read-small : place ≤ 16
     read-small = omega (arith, read-place, h .placed .most)
 
-    pub read-at : Stands t (getD w place []) (getD l i blank)
-    read-at = subst (λ (n : ℕ). Stands t (getD w n []) (getD l i blank)) (sym place-is) (waits-at t w l h i in-list)
+    pub read-at : Stands t (getD w place []) (getD l i noOccurrence)
+    read-at = subst (λ (n : ℕ). Stands t (getD w n []) (getD l i noOccurrence)) (sym place-is) (waits-at t w l h i in-list)
 
     pub read-bytes : Within ticks globals (getD w place [])
     read-bytes = stands-within t _ _ read-at

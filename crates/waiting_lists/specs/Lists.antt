@@ -8,7 +8,7 @@ use lib.Dec.{eqb}
 use lib.ListN.{getD, length, set}
 use Rattle.sequences.specs.Choice.{pick}
 use Rattle.sequences.specs.Marks.{unmarked}
-use Rattle.sequences.specs.Range.{range}
+use Rattle.sequences.specs.Range.{numbersFrom}
 use Rattle.occurrences.specs.declared.Occurrence.{Occurrence}
 use Rattle.occurrences.specs.Packed.{Notes, Stand, Stands}
 use Rattle.waiting_lists.specs.declared.WaitingList.{WaitingList}
@@ -20,7 +20,7 @@ placeIn order i = order / 2 ^ (4 * i) % 16
 
 -- those that wait, in waiting order. Place p is the one after p others; in front of them is the list itself
 unfoldable pub waitersOf : WaitingList → List (List ℕ) → List (List ℕ)
-waitersOf list w = map (λ i. getD w (placeIn (list .order) i + 1) []) (range 0 (list .len))
+waitersOf list w = map (λ i. getD w (placeIn (list .order) i + 1) []) (numbersFrom 0 (list .len))
 
 -- no two of the places that a list has are one
 pub record Placed (list : WaitingList) (places : ℕ) : Type 0 where

@@ -10,7 +10,7 @@ use lib.Dec.{eqb}
 use lib.ListN.{getD, length, length-map}
 use borrow.Author.Tests.{eq-eqb, ne-eqb}
 use Rattle.sequences.specs.Choice.{pick}
-use Rattle.sequences.specs.Members.{_∈_, SameMembers}
+use Rattle.sequences.specs.Members.{_isIn_, SameMembers}
 use Rattle.sequences.specs.Range.{Rising}
 use Rattle.sequences.proofs.Members.{map-in, map-of, same-sym}
 use Rattle.sequences.proofs.Parts.{getD-map}
@@ -40,7 +40,7 @@ use Rattle.readings.proofs.Theorems.{finding-within}
 use Rattle.progress.specs.Progress.{numbersByPlace, stampOf}
 use Rattle.latest_stamps.specs.Written.{Shown}
 use Rattle.latest_stamps.proofs.Theorems.{accepted-placeable, latest-in, latest-of}
-use Rattle.working.specs.Latest.{ExactFinding, IsLatest, entryStamp, isBefore, stampsFrom}
+use Rattle.working.specs.Latest.{ExactFinding, IsLatest, entryStamp, stampBefore, stampsFrom}
 
 -- ---- the numbers of the loggers rise with their places
 module _ (loggers : List ℕ) (ok : NumbersOk 8 loggers) where
@@ -66,7 +66,7 @@ module _ (loggers : List ℕ) (ok : NumbersOk 8 loggers) where
       number m = getD (numbersByPlace loggers) m 0
 
   before-written : (clocks : Clocks) (t u : Timestamp) → t .logger < length loggers → u .logger < length loggers
-      → isBefore clocks (written (numbersByPlace loggers) t) (written (numbersByPlace loggers) u) ≡ before clocks t u
+      → stampBefore clocks (written (numbersByPlace loggers) t) (written (numbersByPlace loggers) u) ≡ before clocks t u
   unfolding before globalOf
   before-written clocks t u h k = rw (same-logger (t .logger) (u .logger) h k)
 
@@ -95,29 +95,29 @@ module _ (p : Plan) (passage : List ℕ) (es : List EventEntry) (ok : PlanOk p) 
 
   -- ---- an occurrence of the passage
   module _ (o : Occurrence) (x : Exact (planClocks p) (stampsIn p passage) o) where
-    event-within : (j : ℕ) → j ∈ elements (o .events) → j < length es
+    event-within : (j : ℕ) → j isIn elements (o .events) → j < length es
     event-within j m = omega (arith, x .within j (elements-has (o .events) j .0 m), length-map (passageEvents p passage) stampOf, accepted-count p passage es B h)
 
-    by-number : (t : Timestamp) → t ∈ stampsAt (stampsIn p passage) (o .events) → written (numbersByPlace (p .loggers)) t ∈ stampsFrom es (elements (o .events))
+    by-number : (t : Timestamp) → t isIn stampsAt (stampsIn p passage) (o .events) → written (numbersByPlace (p .loggers)) t isIn stampsFrom es (elements (o .events))
     unfolding stampsAt stampsFrom
     by-number t m =
         let (j, i, e) = map-of (λ j. getD (stampsIn p passage) j blankStamp) (elements (o .events)) m in
         Memᴰ·cast (ap (written (numbersByPlace (p .loggers))) e ∙ written-entry j (event-within j i)) (map-in (λ j. entryStamp (getD es j noEntry)) (elements (o .events)) i)
 
-    by-place : (s : Stamp) → s ∈ stampsFrom es (elements (o .events))
-        → (t : Timestamp) × (t ∈ stampsAt (stampsIn p passage) (o .events)) × (s ≡ written (numbersByPlace (p .loggers)) t)
+    by-place : (s : Stamp) → s isIn stampsFrom es (elements (o .events))
+        → (t : Timestamp) × (t isIn stampsAt (stampsIn p passage) (o .events)) × (s ≡ written (numbersByPlace (p .loggers)) t)
     unfolding stampsAt stampsFrom
     by-place s m =
         let (j, i, e) = map-of (λ j. entryStamp (getD es j noEntry)) (elements (o .events)) m in
         (getD (stampsIn p passage) j blankStamp, map-in (λ j. getD (stampsIn p passage) j blankStamp) (elements (o .events)) i, e ∙ sym (written-entry j (event-within j i)))
 
-    small : (t : Timestamp) → t ∈ stampsAt (stampsIn p passage) (o .events) → t .logger < length (p .loggers)
+    small : (t : Timestamp) → t isIn stampsAt (stampsIn p passage) (o .events) → t .logger < length (p .loggers)
     unfolding stampsAt
     small t m =
         let (j, i, e) = map-of (λ j. getD (stampsIn p passage) j blankStamp) (elements (o .events)) m in
         rw e (logger-within j (event-within j i))
 
-    fits : (t : Timestamp) → t ∈ stampsAt (stampsIn p passage) (o .events) → StampFits (written (numbersByPlace (p .loggers)) t)
+    fits : (t : Timestamp) → t isIn stampsAt (stampsIn p passage) (o .events) → StampFits (written (numbersByPlace (p .loggers)) t)
     unfolding stampsAt
     fits t m =
         let (j, i, e) = map-of (λ j. getD (stampsIn p passage) j blankStamp) (elements (o .events)) m in
@@ -126,27 +126,27 @@ module _ (p : Plan) (passage : List ℕ) (es : List EventEntry) (ok : PlanOk p) 
         subst StampFits (sym (ap (written (numbersByPlace (p .loggers))) e ∙ written-entry j k))
         (record { logger = omega (arith, w .1, ok .loggers .small _ (w .0)); tick = omega (arith, entry-ok j k .tick) })
 
-    of-latest : (t : Timestamp) → t ∈ members (o .latest)
-        → (t ∈ stampsAt (stampsIn p passage) (o .events)) × ((u : Timestamp) → u ∈ stampsAt (stampsIn p passage) (o .events) → before (planClocks p) t u ≡ false)
+    of-latest : (t : Timestamp) → t isIn members (o .latest)
+        → (t isIn stampsAt (stampsIn p passage) (o .events)) × ((u : Timestamp) → u isIn stampsAt (stampsIn p passage) (o .events) → before (planClocks p) t u ≡ false)
     of-latest = latest-of (planClocks p) (stampsIn p passage) (accepted-placeable p passage es ok B h) o x
 
-    latest-written : (t : Timestamp) → t ∈ members (o .latest) → IsLatest (planClocks p) (stampsFrom es (elements (o .events))) (written (numbersByPlace (p .loggers)) t)
+    latest-written : (t : Timestamp) → t isIn members (o .latest) → IsLatest (planClocks p) (stampsFrom es (elements (o .events))) (written (numbersByPlace (p .loggers)) t)
     latest-written t m =
         let (a, none) = of-latest t m in
         record {
           among = by-number t a;
           before-none = λ s i.
               let (u, k, e) = by-place s i in
-              ap (isBefore (planClocks p) (written (numbersByPlace (p .loggers)) t)) e
+              ap (stampBefore (planClocks p) (written (numbersByPlace (p .loggers)) t)) e
               ∙ before-written (p .loggers) (ok .loggers) (planClocks p) t u (small t a) (small u k) ∙ none u k;
         }
 
-    written-latest : (s : Stamp) → IsLatest (planClocks p) (stampsFrom es (elements (o .events))) s → s ∈ map (written (numbersByPlace (p .loggers))) (members (o .latest))
+    written-latest : (s : Stamp) → IsLatest (planClocks p) (stampsFrom es (elements (o .events))) s → s isIn map (written (numbersByPlace (p .loggers))) (members (o .latest))
     written-latest s l =
         let (t, a, e) = by-place s (l .among) in
-        let none : (u : Timestamp) → u ∈ stampsAt (stampsIn p passage) (o .events) → before (planClocks p) t u ≡ false =
+        let none : (u : Timestamp) → u isIn stampsAt (stampsIn p passage) (o .events) → before (planClocks p) t u ≡ false =
         λ u k. sym (before-written (p .loggers) (ok .loggers) (planClocks p) t u (small t a) (small u k))
-        ∙ ap (λ r. isBefore (planClocks p) r (written (numbersByPlace (p .loggers)) u)) (sym e) ∙ l .before-none _ (by-number u k) in
+        ∙ ap (λ r. stampBefore (planClocks p) r (written (numbersByPlace (p .loggers)) u)) (sym e) ∙ l .before-none _ (by-number u k) in
         Memᴰ·cast e (map-in (written (numbersByPlace (p .loggers))) (members (o .latest))
         (latest-in (planClocks p) (stampsIn p passage) (accepted-placeable p passage es ok B h) o x t a none))
 

@@ -10,8 +10,8 @@ use lib.Dec.{eqb}
 use lib.ListN.{drop, length, take}
 use lib.Seq.{take-all, take-append-seam}
 use borrow.Author.Tests.{ne-eqb}
-use Rattle.sequences.specs.Members.{_∈_, SameMembers}
-use Rattle.sequences.specs.Range.{range}
+use Rattle.sequences.specs.Members.{_isIn_, SameMembers}
+use Rattle.sequences.specs.Range.{numbersFrom}
 use Rattle.sequences.proofs.Range.{range-in}
 use Rattle.plans.specs.Layout.{Plan, planBytes}
 use Rattle.plans.specs.Limits.{PlanOk}
@@ -124,16 +124,16 @@ module _ (plan passage : List ℕ) (room m n : ℕ) (enough : 189 ≤ m) (enough
       (one-plan-answer plan)
 
 -- ---- the numbers of the table
-of-plan : (k : ℕ) → 1 ≤ k → k ≤ 12 → k ∈ answerNumbers
-of-plan k l m = List·Memᴰ·tail (Memᴰ·append-left (range 21 6 ++ range 31 3) (range-in 1 12 k l (omega arith)))
+of-plan : (k : ℕ) → 1 ≤ k → k ≤ 12 → k isIn answerNumbers
+of-plan k l m = List·Memᴰ·tail (Memᴰ·append-left (numbersFrom 21 6 ++ numbersFrom 31 3) (range-in 1 12 k l (omega arith)))
 
-of-passage : (k : ℕ) → 21 ≤ k → k ≤ 26 → k ∈ answerNumbers
-of-passage k l m = List·Memᴰ·tail (Memᴰ·append-right (range 1 12) (Memᴰ·append-left (range 31 3) (range-in 21 6 k l (omega arith))))
+of-passage : (k : ℕ) → 21 ≤ k → k ≤ 26 → k isIn answerNumbers
+of-passage k l m = List·Memᴰ·tail (Memᴰ·append-right (numbersFrom 1 12) (Memᴰ·append-left (numbersFrom 31 3) (range-in 21 6 k l (omega arith))))
 
-of-working : (k : ℕ) → 31 ≤ k → k ≤ 33 → k ∈ answerNumbers
-of-working k l m = List·Memᴰ·tail (Memᴰ·append-right (range 1 12) (Memᴰ·append-right (range 21 6) (range-in 31 3 k l (omega arith))))
+of-working : (k : ℕ) → 31 ≤ k → k ≤ 33 → k isIn answerNumbers
+of-working k l m = List·Memᴰ·tail (Memᴰ·append-right (numbersFrom 1 12) (Memᴰ·append-right (numbersFrom 21 6) (range-in 31 3 k l (omega arith))))
 
-of-limit : (l : Limit) → numberOf l ∈ answerNumbers
+of-limit : (l : Limit) → numberOf l isIn answerNumbers
 unfolding numberOf
 of-limit None = List·Memᴰ·head refl
 of-limit ListFull = of-working 31 (omega arith) (omega arith)
@@ -181,22 +181,22 @@ module _ (plan passage : List ℕ) (room : ℕ) (B : Bytes plan) (C : Bytes pass
       go (works p a es b e) = rw e (as-read p a es b _ _ (run-written p a es b))
 
   -- the number of every answer is 0 or one of the table's
-  pub one-number : worked plan passage room .number ∈ answerNumbers
+  pub one-number : worked plan passage room .number isIn answerNumbers
   one-number = go (every-pair-ends plan passage room)
     where
-      go : Ends plan passage room → worked plan passage room .number ∈ answerNumbers
+      go : Ends plan passage room → worked plan passage room .number isIn answerNumbers
       go (plan-fault number place l m e) = rw e (of-plan number l m)
       go (passage-fault p a number place l m e) = rw e (of-passage number l m)
       go (works p a es b e) = let (l, n) = kept p a es b .limit in rw (e, n) (of-limit l)
 
   -- whichever list of findings has those bytes, each of it is exact
   pub findings-exact : (fs : List Finding) → AllFit fs → worked plan passage room .bytes ≡ findingsBytes fs
-      → (f : Finding) → f ∈ fs → ExactFinding (planClocks (readPlan plan .plan)) (entriesOf plan passage) f
+      → (f : Finding) → f isIn fs → ExactFinding (planClocks (readPlan plan .plan)) (entriesOf plan passage) f
   unfolding LatestExact
   findings-exact fs fit e f m =
       let w = worked-exact in
       let same : fs ≡ w .findings = findings-told fs (w .findings) fit (λ g i. within-fits g (w .each g i .limits)) (sym e ∙ w .laid) in
-      w .each f (subst (λ l. f ∈ l) same m)
+      w .each f (subst (λ l. f isIn l) same m)
 
 -- so it is for the answer and the output of the function, however the work ended
 pub told : (plan passage : List ℕ) (room : ℕ) (out : List ℕ) (r : Answer) (out′ : List ℕ) (w : Work) → Bytes plan → Bytes passage
@@ -214,7 +214,7 @@ told plan passage room out r out′ w B C e a =
 -- two findings of one or two passages under one plan whose events have the same set of stamps carry the same latest stamps
 pub same-latest : (plan passage passage′ : List ℕ) (room room′ : ℕ) → Bytes plan → Bytes passage → Bytes passage′
     → (fs fs′ : List Finding) → AllFit fs → AllFit fs′ → worked plan passage room .bytes ≡ findingsBytes fs → worked plan passage′ room′ .bytes ≡ findingsBytes fs′
-    → (f f′ : Finding) → f ∈ fs → f′ ∈ fs′
+    → (f f′ : Finding) → f isIn fs → f′ isIn fs′
     → SameMembers (stampsFrom (entriesOf plan passage) (f .events)) (stampsFrom (entriesOf plan passage′) (f′ .events)) → f .stamps ≡ f′ .stamps
 same-latest plan passage passage′ room room′ B C C′ fs fs′ a a′ e e′ f f′ m m′ same =
     stamps-same (planClocks (readPlan plan .plan)) (entriesOf plan passage) (entriesOf plan passage′) f f′

@@ -5,7 +5,7 @@ use Prim.Native.Nat.{ℕ}
 use lib.Dec.{eqb}
 use lib.ListN.{drop, length}
 use Rattle.sequences.specs.Choice.{pick}
-use Rattle.sequences.specs.Range.{range}
+use Rattle.sequences.specs.Range.{numbersFrom}
 use Rattle.plans.specs.Layout.{Plan}
 use Rattle.plans.specs.Reader.{PlanAnswer, readPlan}
 use Rattle.passages.specs.Events.{passageEvents}
@@ -23,7 +23,7 @@ pub record Work : Type 0 where
 
 -- 0, and the numbers of the table for two files: 1 to 12 of the plan, 21 to 26 of the passage, 31 to 33 on the way
 abbrev pub answerNumbers : List ℕ
-answerNumbers = 0 ∷ (range 1 12 ++ (range 21 6 ++ range 31 3))
+answerNumbers = 0 ∷ (numbersFrom 1 12 ++ (numbersFrom 21 6 ++ numbersFrom 31 3))
 
 -- a fault in a file: no finding, no byte
 abbrev pub turnedBack : ℕ → ℕ → Work
@@ -51,3 +51,7 @@ pub record Answers (w : Work) (out : List ℕ) (r : Answer) (out′ : List ℕ) 
   pub findings : r .findings ≡ w .findings
   pub bytes : r .bytes ≡ length (w .bytes)
   pub written : out′ ≡ w .bytes ++ drop (length (w .bytes)) out
+
+-- what is promised of file working: the answer and the output of these two files
+abbrev pub FilesWorked : (plan passage out : List ℕ) (r : Answer) (out′ : List ℕ) → Type 0
+FilesWorked plan passage out r out′ = Answers (worked plan passage (length out)) out r out′

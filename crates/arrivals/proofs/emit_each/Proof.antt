@@ -8,7 +8,7 @@ use Rattle.emissions.specs.Emissions.{Emits, Emitting, emitted, emittedAll}
 use Rattle.event_sets.proofs.Words.{rest-less}
 use Rattle.occurrences.proofs.Packed.{stands-within}
 use Rattle.occurrences.specs.Combination.{combinedOf}
-use Rattle.occurrences.specs.Occurrences.{blank}
+use Rattle.occurrences.specs.Occurrences.{noOccurrence}
 use Rattle.occurrences.specs.Packed.{Notes, Stands}
 use Rattle.occurrences.specs.declared.Occurrence.{Occurrence}
 use Rattle.sequences.specs.Loops.{fold}
@@ -114,7 +114,7 @@ emit-one-requires c κs =
     let q = read-of (y .before) in
     let (one, fits) = start-of q .pre in
     let (t, l, s, x, h, m, p) = one in
-    let st = made .combined .ensures t (getD l (a .loop .i) blank) x (read-at t (list-at q) l h (q .list-of .result) (q .list-of .ensures) _ _ (y .place-at .ensures) (y .before .loop-test .taken)) p in
+    let st = made .combined .ensures t (getD l (a .loop .i) noOccurrence) x (read-at t (list-at q) l h (q .list-of .result) (q .list-of .ensures) _ _ (y .place-at .ensures) (y .before .loop-test .taken)) p in
     ((λ k b. stands-within t _ _ st k b .0), t .no-tick, a .loop .inv .2 .within, a .loop .inv .2 .few)
 
 sub-rest : tie.Need-sub-rest Inv-loop μ-loop
@@ -149,12 +149,12 @@ loop-again c =
       λ t l s x h m p.
           let r = a .loop .inv .3 t l s x h m p in
           let in-l : firstMark marks < length l = omega (arith, first, in-loop .loop-test .taken, read-length t (list-at q) l h (q .list-of .result) (q .list-of .ensures)) in
-          let st = rw first at (made .combined .ensures t (getD l (a .loop .i) blank) x (read-at t (list-at q) l h (q .list-of .result) (q .list-of .ensures) _ _ (y .place-at .ensures) (in-loop .loop-test .taken)) p) in
-          let em = rw (a .loop .inv .1) at (call .emit-one .ensures .0 (now (start-of q .args .globals)) t (r .so-far) (combinedOf (t .clocks) (getD l (firstMark marks) blank) x) (r .emits) st) in
+          let st = rw first at (made .combined .ensures t (getD l (a .loop .i) noOccurrence) x (read-at t (list-at q) l h (q .list-of .result) (q .list-of .ensures) _ _ (y .place-at .ensures) (in-loop .loop-test .taken)) p) in
+          let em = rw (a .loop .inv .1) at (call .emit-one .ensures .0 (now (start-of q .args .globals)) t (r .so-far) (combinedOf (t .clocks) (getD l (firstMark marks) noOccurrence) x) (r .emits) st) in
           record {
             so-far = _;
             emits = em;
-            same = each-turn _ (λ w. combinedOf (t .clocks) w x) l marks _ blank in-l in-marks (marks-rest (a .loop .rest)) (r .so-far) _ refl ∙ r .same;
+            same = each-turn _ (λ w. combinedOf (t .clocks) w x) l marks _ noOccurrence in-l in-marks (marks-rest (a .loop .rest)) (r .so-far) _ refl ∙ r .same;
           },
     )
 

@@ -6,7 +6,7 @@ use Rattle.comparisons.proofs.compare_done.Statement.{statement}
 use Rattle.comparisons.proofs.compare_done.Tie as tie
 use Rattle.comparisons.proofs.compare_done.Reads as reads
 use Rattle.comparisons.proofs.compare_done.Lts as lts
-use Rattle.open_calls.proofs.is_refusal.Reads as is-refusal-reads
+use Rattle.open_calls.proofs.Verdict.is_refusal.Reads as is-refusal-reads
 use Rattle.comparisons.proofs.place_after.Reads as place-after-reads
 use Rattle.comparisons.proofs.refused_comparison.Reads as refused-comparison-reads
 use Rattle.comparisons.proofs.relate.Reads as relate-reads

@@ -8,7 +8,7 @@ use Rattle.comparisons.proofs.gather_step.Reads as reads
 use Rattle.comparisons.proofs.gather_step.Lts as lts
 use Rattle.comparisons.proofs.gather.Reads as gather-reads
 use Rattle.comparisons.proofs.judged_as.Reads as judged-as-reads
-use Rattle.open_calls.proofs.is_refusal.Reads as is-refusal-reads
+use Rattle.open_calls.proofs.Verdict.is_refusal.Reads as is-refusal-reads
 use Rattle.timestamps.proofs.Timestamp.valid.Reads as valid-reads
 
 is-refusal-requires : tie.Need-is-refusal-requires

@@ -5,7 +5,7 @@ use Rattle.comparisons.proofs.start_of.Statement.{statement}
 use Rattle.comparisons.proofs.start_of.Tie as tie
 use Rattle.comparisons.proofs.start_of.Reads as reads
 use Rattle.comparisons.proofs.start_of.Lts as lts
-use Rattle.open_calls.proofs.is_refusal.Reads as is-refusal-reads
+use Rattle.open_calls.proofs.Verdict.is_refusal.Reads as is-refusal-reads
 use Rattle.comparisons.proofs.refused_comparison.Reads as refused-comparison-reads
 
 is-refusal-requires : tie.Need-is-refusal-requires

@@ -4,12 +4,12 @@ use Rattle.contexts.proofs.Steps.{bars-itself, found-here, lows-at, not
 use Rattle.contexts.specs.Steps.{Lows, barsOf}
 use Rattle.contexts.specs.Table.{takesOf}
 use Rattle.occurrences.proofs.Seen.{stands-composite}
-use Rattle.occurrences.specs.Occurrences.{blank}
+use Rattle.occurrences.specs.Occurrences.{noOccurrence}
 use Rattle.occurrences.specs.Packed.{Notes, Within}
 use Rattle.occurrences.specs.declared.Occurrence.{Occurrence}
 use Rattle.sequences.proofs.Marks.{marked-end}
 use Rattle.sequences.specs.Marks.{marked}
-use Rattle.sequences.specs.Select.{any}
+use Rattle.sequences.specs.Select.{somePasses}
 use Rattle.waiting_lists.proofs.Marks.{length-marks}
 use Rattle.waiting_lists.proofs.Waits.{read-at, read-bytes, read-few, read-length, read-place, read-small, waits-few}
 use Rattle.waiting_lists.specs.declared.WaitingList.{WaitingList}
@@ -33,8 +33,8 @@ use Rattle.waiting_lists.proofs.place_at.Reads as place-at-reads
 abbrev Inv-loop : tie.InvT-loop
 Inv-loop rule i list lows candidates ticks globals waiting n own low j₀ j =
     (j ≤ n) × ((t : Notes ticks globals) (l : List Occurrence) → Waits t list l → Lows globals list (length l) lows
-    → any (barsOf (takesOf rule) (t .clocks) (getD l i blank)) (marked (drop j l) (drop j (marksOf candidates)))
-    ≡ any (barsOf (takesOf rule) (t .clocks) (getD l i blank)) (marked l (marksOf candidates)))
+    → somePasses (barsOf (takesOf rule) (t .clocks) (getD l i noOccurrence)) (marked (drop j l) (drop j (marksOf candidates)))
+    ≡ somePasses (barsOf (takesOf rule) (t .clocks) (getD l i noOccurrence)) (marked l (marksOf candidates)))
 
 abbrev μ-loop : tie.MeasureT-loop
 μ-loop rule i list lows candidates ticks globals waiting n own low j₀ j = n - j
@@ -81,14 +81,14 @@ other-in y =
 
 -- what the call tells of place j
 abbrev bars-by : (q : Read) → Notes (start-of q .args .ticks .now) (start-of q .args .globals .now) → List Occurrence → Occurrence → Bool
-bars-by q t l = barsOf (takesOf (start-of q .args .rule)) (t .clocks) (getD l (start-of q .args .i) blank)
+bars-by q t l = barsOf (takesOf (start-of q .args .rule)) (t .clocks) (getD l (start-of q .args .i) noOccurrence)
 
 told : (a : tie.After-bars Inv-loop μ-loop)
     → (let y = a .before .before .before .before .before in
     let q = read-of y in
     let j = y .before .before .loop .j in
     (t : Notes (start-of q .args .ticks .now) (start-of q .args .globals .now)) (l : List Occurrence) → Waits t (list-at q) l → Lows (start-of q .args .globals .now) (list-at q) (length l) (start-of q .args .lows .now)
-    → (getD (marksOf (start-of q .args .candidates)) j false && bars-by q t l (getD l j blank)) ≡ a .bars .result)
+    → (getD (marksOf (start-of q .args .candidates)) j false && bars-by q t l (getD l j noOccurrence)) ≡ a .bars .result)
 told a t l h low =
     let o = a .before .before .before .before in
     let y = o .before in
@@ -103,8 +103,8 @@ told a t l h low =
     let mine = read-at t w l h list is (s .args .i) _ (own .place-at .ensures) (own-waits q) in
     let its = read-at t w l h list is j _ (y .place-at2 .ensures) (y .before .loop-test .taken) in
     others-tell (bars-by q t l) l (s .args .i) j (getD (marksOf (s .args .candidates)) j false) _ _
-    (bars-itself (takesOf (s .args .rule)) (t .clocks) (getD l (s .args .i) blank) (stands-composite t _ _ mine)) (o .is-other .ensures)
-    (a .bars .ensures t (getD l (s .args .i) blank) (getD l j blank)
+    (bars-itself (takesOf (s .args .rule)) (t .clocks) (getD l (s .args .i) noOccurrence) (stands-composite t _ _ mine)) (o .is-other .ensures)
+    (a .bars .ensures t (getD l (s .args .i) noOccurrence) (getD l j noOccurrence)
     (lows-at (s .args .globals .now) w (s .args .lows .now) list (length l) (s .args .i) _ is (own .place-at .ensures) (omega (arith, len, own-waits q)) low)
     (lows-at (s .args .globals .now) w (s .args .lows .now) list (length l) j _ is (y .place-at2 .ensures) (omega (arith, len, y .before .loop-test .taken)) low) mine its)
 
@@ -189,14 +189,14 @@ loop-again c =
     )
 
 returns-2 : tie.Need-returns-2 Inv-loop μ-loop
-unfolding any
+unfolding somePasses
 returns-2 c =
     let b = c .before in
     let q = b .before .before .before in
     let s = start-of q in
     λ t l h low.
     let len = read-length t (list-at q) l h (q .list-of .result) (q .list-of .ensures) in
-    sym (ap (any (barsOf (takesOf (s .args .rule)) (t .clocks) (getD l (s .args .i) blank))) (marked-end l (marksOf (s .args .candidates)) (b .loop .j) (omega (arith, len, c .loop-test .left)))) ∙ b .loop .inv .1 t l h low
+    sym (ap (somePasses (barsOf (takesOf (s .args .rule)) (t .clocks) (getD l (s .args .i) noOccurrence))) (marked-end l (marksOf (s .args .candidates)) (b .loop .j) (omega (arith, len, c .loop-test .left)))) ∙ b .loop .inv .1 t l h low
 
 pub barred-spec : {M : Type 1} → statement M
 barred-spec =

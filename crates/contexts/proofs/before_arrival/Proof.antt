@@ -3,7 +3,7 @@ use Prim.Native.Nat.{ℕ, _-_, _<_, _≤_}
 use Rattle.contexts.proofs.Steps.{tested-turn}
 use Rattle.contexts.specs.Choice.{seqCandidates}
 use Rattle.occurrences.proofs.Packed.{stands-within}
-use Rattle.occurrences.specs.Occurrences.{blank, isBefore}
+use Rattle.occurrences.specs.Occurrences.{noOccurrence, isBefore}
 use Rattle.occurrences.specs.Packed.{Notes, Stands, Within}
 use Rattle.occurrences.specs.declared.Occurrence.{Occurrence}
 use Rattle.sequences.proofs.Marks.{padded-end, padded-start}
@@ -128,7 +128,7 @@ loop-again c =
           let len = read-length t w l h (q .list-of .result) (q .list-of .ensures) in
           let in-l : b .loop .i < length l = omega (arith, len, y .before .loop-test .taken) in
           tested-turn l (marksOf (b .loop .marks)) (b .loop .i) in-l (waits-few t w l h) (λ o. isBefore (t .clocks) o x) _ _ (b .loop .inv .1 t l x h p)
-          (v .comes-before .ensures t (getD l (b .loop .i) blank) x (low .lowest2 .ensures (t .no-global)) (f .lowest .ensures (t .no-global))
+          (v .comes-before .ensures t (getD l (b .loop .i) noOccurrence) x (low .lowest2 .ensures (t .no-global)) (f .lowest .ensures (t .no-global))
           (read-at t w l h (q .list-of .result) (q .list-of .ensures) _ _ (y .place-at .ensures) (y .before .loop-test .taken)) p) (c .with-mark .ensures),
     )
 

@@ -79,8 +79,8 @@ mul-t17 c = search needs
 element-set-from-made : tie.Need-element-set-from-made
 element-set-from-made c = search needs
 
-number-of-requires : tie.Need-number-of-requires
-number-of-requires c κs = search needs
+number-requires : tie.Need-number-requires
+number-requires c κs = search needs
 
 add-t17 : tie.Need-add-t17
 add-t17 c = search needs
@@ -107,7 +107,7 @@ returns-4 c =
     let found = occurrenceOf (now (a .ticks)) (now (a .o)) in
     let bytes = bytesOf (now (a .loggers)) (a .place) found in
     let w : Wrote (now (a .out)) (a .e .at) bytes (write .write .result) (write .write .last .0) = write .write .ensures in (
-      (λ globals t s x h o. emits-go t _ _ h o (sym (told .is-reached .ensures) ∙ go .if1 .left) eight below (start .pre .2) size (c .number-of .ensures) w),
+      (λ globals t s x h o. emits-go t _ _ h o (sym (told .is-reached .ensures) ∙ go .if1 .left) eight below (start .pre .2) size (c .number .ensures) w),
       beyond-finding (findingOf (now (a .loggers)) (a .place) (found .latest) (found .events)) size (start .pre .3) w,
     )
 
@@ -126,7 +126,7 @@ emit-one-spec =
     write-requires
     mul-t17
     element-set-from-made
-    number-of-requires
+    number-requires
     add-t17
     add-t29
     same-length

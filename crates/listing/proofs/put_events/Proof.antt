@@ -15,16 +15,16 @@ use Rattle.listing.proofs.put_events.Statement.{statement}
 use Rattle.listing.proofs.put_events.Tie as tie
 
 abbrev Inv-loop : tie.InvT-loop
-Inv-loop page₀ at events to₀ mark₀ e₀ page to mark e =
+Inv-loop page₀ at events to₀ mark₀ e₀ page to separator e =
     (e ≤ 128)
     × (at ≤ to)
     × (to + 21 * (128 - e) ≤ at + 2688)
     × (length page ≡ length page₀)
     × (nextFrom events e ≡ e)
-    × ((r : ℕ) (l : List ℕ) → Wrote page to (listed numberText mark (elementsFrom events e)) r l → Wrote page₀ at (listed numberText space (elements events)) r l)
+    × ((r : ℕ) (l : List ℕ) → Wrote page to (listed numberText separator (elementsFrom events e)) r l → Wrote page₀ at (listed numberText space (elements events)) r l)
 
 abbrev μ-loop : tie.MeasureT-loop
-μ-loop page₀ at events to₀ mark₀ e₀ page to mark e = 128 - e
+μ-loop page₀ at events to₀ mark₀ e₀ page to separator e = 128 - e
 
 next-from-requires : tie.Need-next-from-requires Inv-loop μ-loop
 next-from-requires c κs = search needs
@@ -63,7 +63,7 @@ loop-again c =
       omega (arith, t .2, t .3),
       w .put-number .kept .0 ∙ a .loop .inv .3,
       t .0,
-      (λ r l rest. a .loop .inv .5 r l (rw (t .1 (a .loop .mark)) (wrote-then (omega arith) (w .put-number .ensures .0) rest))),
+      (λ r l rest. a .loop .inv .5 r l (rw (t .1 (a .loop .separator)) (wrote-then (omega arith) (w .put-number .ensures .0) rest))),
     )
 
 same-length : tie.Need-same-length Inv-loop μ-loop
@@ -73,7 +73,7 @@ returns : tie.Need-returns Inv-loop μ-loop
 returns c =
     let a = c .before in
     let s = a .before .before .before .args .events in
-    (a .loop .inv .5 _ _ (rw (events-end s (a .loop .mark) (a .loop .e) (search needs)) (wrote-none _ _)), search needs, omega arith)
+    (a .loop .inv .5 _ _ (rw (events-end s (a .loop .separator) (a .loop .e) (search needs)) (wrote-none _ _)), search needs, omega arith)
 
 pub put-events-spec : {M : Type 1} → statement M
 put-events-spec =

@@ -38,7 +38,7 @@ returns c =
     let d = t .before .before .before in
     let s = d .before .before .before in
     let f = few-digits _ _ (s .fits .n .fits) (d .decimal .ensures .1 .0) in (
-      wrote-number (s .args .mark) (s .args .n) _ (omega arith) (s .fits .n .fits) (d .decimal .ensures .1 .0) (d .decimal .ensures .1 .1) (t .put-text .ensures),
+      wrote-number (s .args .separator) (s .args .n) _ (omega arith) (s .fits .n .fits) (d .decimal .ensures .1 .0) (d .decimal .ensures .1 .1) (t .put-text .ensures),
       omega arith,
       omega (arith, f),
     )

@@ -14,15 +14,15 @@ use Rattle.listing.proofs.put_stamps.Statement.{statement}
 use Rattle.listing.proofs.put_stamps.Tie as tie
 
 abbrev Inv-loop : tie.InvT-loop
-Inv-loop page₀ at count stamps to₀ mark₀ i₀ page to mark i =
+Inv-loop page₀ at count stamps to₀ mark₀ i₀ page to separator i =
     (i ≤ 8)
     × (at ≤ to)
     × (to + 42 * (8 - i) ≤ at + 336)
     × (length page ≡ length page₀)
-    × ((r : ℕ) (l : List ℕ) → Wrote page to (listed stampText mark (drop i (take count stamps))) r l → Wrote page₀ at (listed stampText space (take count stamps)) r l)
+    × ((r : ℕ) (l : List ℕ) → Wrote page to (listed stampText separator (drop i (take count stamps))) r l → Wrote page₀ at (listed stampText space (take count stamps)) r l)
 
 abbrev μ-loop : tie.MeasureT-loop
-μ-loop page₀ at count stamps to₀ mark₀ i₀ page to mark i = 8 - i
+μ-loop page₀ at count stamps to₀ mark₀ i₀ page to separator i = 8 - i
 
 loop-holds : tie.Need-loop-holds Inv-loop μ-loop
 loop-holds c = (search needs, search needs, search needs, search needs, (λ r l w. w))
@@ -35,7 +35,7 @@ returns c =
     let a = c .before .before in
     let s = a .before .before in
     let n = length-take (s .args .count) (s .args .t4) in
-    (a .loop .inv .4 _ _ (rw (listed-end stampText (s .args .count) (s .args .t4) (a .loop .mark) (a .loop .i) (omega (arith, n))) (wrote-none _ _)), search needs, omega arith)
+    (a .loop .inv .4 _ _ (rw (listed-end stampText (s .args .count) (s .args .t4) (a .loop .separator) (a .loop .i) (omega (arith, n))) (wrote-none _ _)), search needs, omega arith)
 
 mul-s : tie.Need-mul-s Inv-loop μ-loop
 mul-s c = search needs
@@ -57,7 +57,7 @@ loop-again c =
     let w = c .before .before in
     let a = w .before .before .before .before .before in
     let s = a .before .before in
-    let turn = listed-turn stampText (s .args .count) (s .args .t4) (a .loop .mark) (a .loop .i) noStamp (search needs) (search needs) in (
+    let turn = listed-turn stampText (s .args .count) (s .args .t4) (a .loop .separator) (a .loop .i) noStamp (search needs) (search needs) in (
       search needs,
       search needs,
       search needs,
@@ -73,7 +73,7 @@ returns-2 c =
     let a = c .before in
     let s = a .before .before in
     let n = length-take (s .args .count) (s .args .t4) in
-    (a .loop .inv .4 _ _ (rw (listed-end stampText (s .args .count) (s .args .t4) (a .loop .mark) (a .loop .i) (omega (arith, n))) (wrote-none _ _)), search needs, omega arith)
+    (a .loop .inv .4 _ _ (rw (listed-end stampText (s .args .count) (s .args .t4) (a .loop .separator) (a .loop .i) (omega (arith, n))) (wrote-none _ _)), search needs, omega arith)
 
 pub put-stamps-spec : {M : Type 1} → statement M
 put-stamps-spec =

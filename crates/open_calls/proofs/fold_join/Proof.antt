@@ -54,9 +54,9 @@ use denote.Array.{Array, array-vals, array-tells, array-lawful, array-makes}
 use denote.Lend.{lends-ref, ref-back}
 use Rattle.open_calls.specs.Steps.{Joins, joiningOf, nothingJudged}
 use Rattle.timestamps.specs.Order.{blank, clocksOf}
-use Rattle.open_calls.specs.declared.Judged.{Judged}
-use Rattle.open_calls.proofs.Judged as RJudged
-use Rattle.open_calls.proofs.Judged.Laws as LJudged
+use Rattle.open_calls.specs.declared.VerdictAt.{VerdictAt}
+use Rattle.open_calls.proofs.VerdictAt as RJudged
+use Rattle.open_calls.proofs.VerdictAt.Laws as LJudged
 use Rattle.timestamps.specs.declared.Timestamp.{Timestamp}
 use Rattle.timestamps.proofs.Timestamp as RTimestamp
 use Rattle.timestamps.proofs.Timestamp.Laws as LTimestamp
@@ -163,7 +163,7 @@ module _ {M : Type 1} (𝓤 : URA M) (H : Heap 𝓤) (A : Atoms 𝓤) (W : Given
       qed W (‵ (partAt Arr fullShare m b o) ∷ []) ∵ fpick ! (λ vs. fsplit ! $ spelt ! Arr (Is Arr) (shows 𝓤 H A Arr) (array-vals (uint-vals w64)) (array-tells u64 (uint-vals w64) (uint-tells w64) 17) fullShare m vs b o $
       use1 W (‵ (fat fullShare arr b o (low m))) (W .laws .raw-at fullShare arr b o (low m)) $ done !)
 
-module _ {M : Type 1} (𝓤 : URA M) (H : Heap 𝓤) (A : Atoms 𝓤) (W : Given 𝓤 H A) (at-mem : Memory → SProp 𝓤) (run : Routine → Fun 𝓤) (κ : Lft) (q : Share) (b o : ℕ) (γ : GName) (xs : List Timestamp) (a₀ : Judged) (ga₀ : Is RJudged.the-row a₀ ((LL.val RJudged.the-type LJudged.the-laws a₀) ∷ [])) (k1 : ℕ) (gk1 : Is u64 k1 ((vint w64 k1) ∷ [])) where
+module _ {M : Type 1} (𝓤 : URA M) (H : Heap 𝓤) (A : Atoms 𝓤) (W : Given 𝓤 H A) (at-mem : Memory → SProp 𝓤) (run : Routine → Fun 𝓤) (κ : Lft) (q : Share) (b o : ℕ) (γ : GName) (xs : List Timestamp) (a₀ : VerdictAt) (ga₀ : Is RJudged.the-row a₀ ((LL.val RJudged.the-type LJudged.the-laws a₀) ∷ [])) (k1 : ℕ) (gk1 : Is u64 k1 ((vint w64 k1) ∷ [])) where
   abbrev n : ℕ
   n = length xs
 
@@ -174,7 +174,7 @@ module _ {M : Type 1} (𝓤 : URA M) (H : Heap 𝓤) (A : Atoms 𝓤) (W : Given
   v = sliceVal (b, o) n
 
   abbrev Arg : Type 0
-  Arg = Judged × (RefT (List Timestamp) × (ℕ × Unit {0}))
+  Arg = VerdictAt × (RefT (List Timestamp) × (ℕ × Unit {0}))
 
   abbrev x : Arg
   x = (a₀, (s, (k1, tt)))
@@ -205,10 +205,10 @@ module _ {M : Type 1} (𝓤 : URA M) (H : Heap 𝓤) (A : Atoms 𝓤) (W : Given
   Lent b′ ν δ m = MutRef (named 0) (ν ∷ []) Arr .own (lent b′ δ m) (vptr b′ 0 ∷ [])
 
   -- ---- the call, at the value a with the machine value u, the notes m, and the element e
-  abbrev to : ℕ → ℕ → GName → Judged → Val → List ℕ → Timestamp → ℕ → Callee 𝓤 H A at-mem run .Ghost
+  abbrev to : ℕ → ℕ → GName → VerdictAt → Val → List ℕ → Timestamp → ℕ → Callee 𝓤 H A at-mem run .Ghost
   to b′ ν δ a u m e i = (((ν ∷ [], tt), (fullShare, tt), tt, (a, (lent b′ δ m, (e, (i, (k1, tt))))), (u ∷ [], (vptr b′ 0 ∷ [], ((LL.val RTimestamp.the-type LTimestamp.the-laws e) ∷ [], (vint w64 i ∷ [], ((vint w64 k1) ∷ [], tt)))))), tt)
 
-  goes-to : (b′ ν : ℕ) (δ : GName) (a : Judged) (u : Val) (m : List ℕ) (e : Timestamp) (i : ℕ) → i < 2 ^ 64 → Is RJudged.the-row a (u ∷ []) → Is R e ((LL.val RTimestamp.the-type LTimestamp.the-laws e) ∷ [])
+  goes-to : (b′ ν : ℕ) (δ : GName) (a : VerdictAt) (u : Val) (m : List ℕ) (e : Timestamp) (i : ℕ) → i < 2 ^ 64 → Is RJudged.the-row a (u ∷ []) → Is R e ((LL.val RTimestamp.the-type LTimestamp.the-laws e) ∷ [])
       → ent 𝓤 (sep 𝓤 (A .lft (ν ∷ []) fullShare) (sem 𝓤 H A (Lent b′ ν δ m))) (Callee 𝓤 H A at-mem run .pre (to b′ ν δ a u m e i))
   goes-to b′ ν δ a u m e i fi ga ge =
       qed W (‵ (flft (ν ∷ []) fullShare) ∷ ‵ (Lent b′ ν δ m) ∷ []) ∵ nothing ! $ move ! (1 ∷ 0 ∷ []) $ join ! $ move ! (1 ∷ []) $
@@ -216,13 +216,13 @@ module _ {M : Type 1} (𝓤 : URA M) (H : Heap 𝓤) (A : Atoms 𝓤) (W : Given
       move ! (1 ∷ 0 ∷ []) $ fjoin ! $ owned ! RJudged.the-row (Is RJudged.the-row) (LL.makes RJudged.the-type LJudged.the-plain 𝓤 H A) a (u ∷ []) ga $ fjoin ! $ move ! (1 ∷ 0 ∷ []) $ join ! $ frame ! $ done !
 
   -- what the call says, of its result r and the notes z that it leaves
-  abbrev Said : Judged → List ℕ → Timestamp → ℕ → Judged → List ℕ → Type 0
+  abbrev Said : VerdictAt → List ℕ → Timestamp → ℕ → VerdictAt → List ℕ → Type 0
   Said a m e i r z = (l : List Timestamp) → length l ≡ i → Joins (clocksOf k1) l (joiningOf a m) → Joins (clocksOf k1) (l ++ (e ∷ [])) (joiningOf r z)
 
-  made : (a : Judged) (m : List ℕ) → Is RJudged.the-row a ((LL.val RJudged.the-type LJudged.the-laws a) ∷ []) → Is Arr m (low m ∷ []) → Is RJoining.the-row (joiningOf a m) ((LL.val RJoining.the-type LJoining.the-laws (joiningOf a m)) ∷ [])
+  made : (a : VerdictAt) (m : List ℕ) → Is RJudged.the-row a ((LL.val RJudged.the-type LJudged.the-laws a) ∷ []) → Is Arr m (low m ∷ []) → Is RJoining.the-row (joiningOf a m) ((LL.val RJoining.the-type LJoining.the-laws (joiningOf a m)) ∷ [])
   made a m ga gm = LL.owes RJoining.the-type LJoining.the-laws (joiningOf a m) (ga, (subst (λ (y : List ℕ). Is Arr y (low y ∷ [])) (same-notes m) gm, tt))
 
-  exits : (a : Judged) (m : List ℕ) → (a₀ ≡ nothingJudged → Joins (clocksOf k1) xs (joiningOf a m)) → Is RJudged.the-row a ((LL.val RJudged.the-type LJudged.the-laws a) ∷ []) → Is Arr m (low m ∷ []) → ent 𝓤 (⋆ 𝓤 H A (‵ Own ∷ ‵ (flft κ q) ∷ [])) (Post (LL.val RJoining.the-type LJoining.the-laws (joiningOf a m)))
+  exits : (a : VerdictAt) (m : List ℕ) → (a₀ ≡ nothingJudged → Joins (clocksOf k1) xs (joiningOf a m)) → Is RJudged.the-row a ((LL.val RJudged.the-type LJudged.the-laws a) ∷ []) → Is Arr m (low m ∷ []) → ent 𝓤 (⋆ 𝓤 H A (‵ Own ∷ ‵ (flft κ q) ∷ [])) (Post (LL.val RJoining.the-type LJoining.the-laws (joiningOf a m)))
   exits a m e ga gm =
       qed W (‵ Own ∷ ‵ (flft κ q) ∷ []) ∵
       suffices ! _ (ends-at 𝓤 H A self.ended stayed (self.clauses 𝓤 H A at-mem run) W (((κ, tt), (q, tt), tt, x, at), tt) (LL.val RJoining.the-type LJoining.the-laws (joiningOf a m)) (joiningOf a m) (tt, (tt, (tt, tt))) (tt, (tt, (tt, tt)))) $ says ! e $
@@ -246,7 +246,7 @@ module _ {M : Type 1} (𝓤 : URA M) (H : Heap 𝓤) (A : Atoms 𝓤) (W : Given
     At i u m = ‵ (fat fullShare acc l5 0 u) ∷ ‵ (fat fullShare word l6 0 (vint w64 i)) ∷ ‵ (fat fullShare arr l4 0 (low m)) ∷ ‵ (froom elem l7 0) ∷ ‵ (froom word l8 0) ∷ ‵ (froom tyBool l9 0) ∷ ‵ (froom tyPtr l10 0) ∷ ‵ (froom elem l11 0) ∷ ‵ (froom ref l12 0) ∷ ‵ (froom arr l13 0) ∷ ‵ (fat fullShare slice l2 0 v) ∷ ‵ (froom whole-ty l0 0) ∷ ‵ (fat fullShare acc l1 0 (LL.val RJudged.the-type LJudged.the-laws a₀)) ∷ ‵ (fat fullShare (tyInt w64) l3 0 (vint w64 k1)) ∷ ‵ (flft κ q) ∷ ‵ (fshr-bor κ (λ p. arr-parts (shares R) n .part p xs b o)) ∷ ‵ (fres γ (codedHoleys R .code (heres R xs))) ∷ ‵ (fsep (feq (List Val) (v ∷ []) (slice-vals s)) (room R n)) ∷ ‵ (fdies whole-ty l0) ∷ ‵ (fdies acc l1) ∷ ‵ (fdies slice l2) ∷ ‵ (fdies (tyInt w64) l3) ∷ ‵ (fdies arr l4) ∷ ‵ (fdies acc l5) ∷ ‵ (fdies word l6) ∷ ‵ (fdies elem l7) ∷ ‵ (fdies word l8) ∷ ‵ (fdies tyBool l9) ∷ ‵ (fdies tyPtr l10) ∷ ‵ (fdies elem l11) ∷ ‵ (fdies ref l12) ∷ ‵ (fdies arr l13) ∷ []
 
     abbrev St : Type 0
-    St = ℕ × (Judged × (Val × List ℕ))
+    St = ℕ × (VerdictAt × (Val × List ℕ))
 
     abbrev Facts : ℕ → St → Type 0
     Facts t x = ((n - x .0 ≡ t) × (x .0 ≤ n)) × ((a₀ ≡ nothingJudged → Joins (clocksOf k1) (takeN (x .0) xs) (joiningOf (x .1 .0) (x .1 .1 .1))) × (Is RJudged.the-row (x .1 .0) (x .1 .1 .0 ∷ []) × Is Arr (x .1 .1 .1) (low (x .1 .1 .1) ∷ [])))
@@ -264,8 +264,8 @@ module _ {M : Type 1} (𝓤 : URA M) (H : Heap 𝓤) (A : Atoms 𝓤) (W : Given
     bytes = g .1
 
     -- a turn that takes one element
-    more : (i : ℕ) (a : Judged) (u : Val) (m : List ℕ) (X : SProp 𝓤) → i < n → Is RJudged.the-row a (u ∷ []) → Is Arr m (low m ∷ [])
-        → ((r : Judged) (w : Val) (z : List ℕ) → Said a m (el i) i r z → Is RJudged.the-row r (w ∷ []) → Is Arr z (low z ∷ []) → ent 𝓤 (⋆ 𝓤 H A (At (suc i) w z)) X)
+    more : (i : ℕ) (a : VerdictAt) (u : Val) (m : List ℕ) (X : SProp 𝓤) → i < n → Is RJudged.the-row a (u ∷ []) → Is Arr m (low m ∷ [])
+        → ((r : VerdictAt) (w : Val) (z : List ℕ) → Said a m (el i) i r z → Is RJudged.the-row r (w ∷ []) → Is Arr z (low z ∷ []) → ent 𝓤 (⋆ 𝓤 H A (At (suc i) w z)) X)
         → ent 𝓤 (⋆ 𝓤 H A (At i u m)) (Wp 𝓤 H C Λ En parts.turn-1 (afterTurn 𝓤 H X Left))
     unfolding afterTurn
     more i a u m X small ga gm k =
@@ -287,7 +287,7 @@ module _ {M : Type 1} (𝓤 : URA M) (H : Heap 𝓤) (A : Atoms 𝓤) (W : Given
         move ! (4 ∷ []) $ use1 W (‵ (partAt Arr fullShare m l4 0)) (lies-in 𝓤 H A W m l4 0 gm) $ lft-new ! tt (λ ν. move ! (1 ∷ []) $
         use1 W (later (some (λ (δ : GName). ‵ (Lent l4 ν δ m) ⊛ ‵ (flent (ν ∷ []) (Body (mem Arr) l4 0 δ))))) (lends-ref 𝓤 H A W Arr (named 0) (ν ∷ []) m l4 0) $ await ! tt $ pick ! (λ δ. split ! $ move ! (2 ∷ 0 ∷ []) $ use2 W (raw (Callee 𝓤 H A at-mem run .pre (to l4 ν δ a u m (el i) i))) (goes-to l4 ν δ a u m (el i) i i-fits ga ge) $
         calls-at ! fm (Callee 𝓤 H A at-mem run) known (to l4 ν δ a u m (el i) i) (and-then ! (load ! (from ! (stop !)) (look ! 4 refl)) (and-then ! (load ! (from ! (stop !)) (look ! 11 refl)) (and-then ! (load ! (from ! (stop !)) (look ! 6 refl)) (and-then ! (load ! (from ! (stop !)) (look ! 5 refl)) (and-then ! (load ! (from ! (stop !)) (look ! 16 refl)) (no-more !)))))) (λ w.
-        use1 W (later (some (λ (r : Judged). ((‵ (flft (ν ∷ []) fullShare) ⊛ ‵ ftrue) ⊛ ‵ (RJudged.the-row .own r (w ∷ []))) ⊛ raw (ensured 𝓤 H A callee.ended (callee.clauses 𝓤 H A at-mem run) (ν ∷ [], tt) (a, (lent l4 δ m, ((el i), (i, (k1, tt))))) tt r)))) (id⊢ 𝓤 _) $ await ! tt $ pick ! (λ r.
+        use1 W (later (some (λ (r : VerdictAt). ((‵ (flft (ν ∷ []) fullShare) ⊛ ‵ ftrue) ⊛ ‵ (RJudged.the-row .own r (w ∷ []))) ⊛ raw (ensured 𝓤 H A callee.ended (callee.clauses 𝓤 H A at-mem run) (ν ∷ [], tt) (a, (lent l4 δ m, ((el i), (i, (k1, tt))))) tt r)))) (id⊢ 𝓤 _) $ await ! tt $ pick ! (λ r.
         split ! $ move ! (1 ∷ []) $ use1 W (some (λ (zs : Unit {0} × (List ℕ × (Unit {0} × (Unit {0} × (Unit {0} × (Unit {0})))))). ‵ (lasts callee.ended (ν ∷ [], tt) (a, (lent l4 δ m, ((el i), (i, (k1, tt))))) zs) ⊛ raw (fact 𝓤 (Said a m (el i) i r (zs .1 .0))))) (id⊢ 𝓤 _) $ pick ! (λ zs.
         split ! $ move ! (1 ∷ []) $ heard ! (Said a m (el i) i r (zs .1 .0)) (λ eq. fsplit ! $ drop ! $ fsplit ! $ move ! (2 ∷ []) $ split ! $ move ! (1 ∷ []) $
         peeks ! RJudged.the-row (Is RJudged.the-row) (shows 𝓤 H A RJudged.the-row) r (w ∷ []) (λ is.
@@ -309,7 +309,7 @@ module _ {M : Type 1} (𝓤 : URA M) (H : Heap 𝓤) (A : Atoms 𝓤) (W : Given
         i-fits = omega (arith, g .0)
 
     -- the turn that leaves the loop, and the rest of the body
-    ends : (i : ℕ) (a : Judged) (u : Val) (m : List ℕ) (X : SProp 𝓤) → n ≤ i → (a₀ ≡ nothingJudged → Joins (clocksOf k1) xs (joiningOf a m)) → Is RJudged.the-row a (u ∷ []) → Is Arr m (low m ∷ []) → ent 𝓤 (⋆ 𝓤 H A (At i u m)) (Wp 𝓤 H C Λ En parts.turn-1 (afterTurn 𝓤 H X Left))
+    ends : (i : ℕ) (a : VerdictAt) (u : Val) (m : List ℕ) (X : SProp 𝓤) → n ≤ i → (a₀ ≡ nothingJudged → Joins (clocksOf k1) xs (joiningOf a m)) → Is RJudged.the-row a (u ∷ []) → Is Arr m (low m ∷ []) → ent 𝓤 (⋆ 𝓤 H A (At i u m)) (Wp 𝓤 H C Λ En parts.turn-1 (afterTurn 𝓤 H X Left))
     unfolding afterTurn
     ends i a u m X big eq ga gm =
         qed W (At i u m) ∵ exec ! C Λ En parts.turn-1 (anyQ (afterTurn 𝓤 H X Left)) $

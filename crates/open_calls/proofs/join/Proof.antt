@@ -60,8 +60,8 @@ use Rattle.timestamps.proofs.Timestamp.Laws as LTimestamp
 use Rattle.open_calls.specs.declared.JoinStart.{JoinStart}
 use Rattle.open_calls.proofs.JoinStart as RJoinStart
 use Rattle.open_calls.proofs.JoinStart.Laws as LJoinStart
-use Rattle.open_calls.proofs.Judged as RJudged
-use Rattle.open_calls.proofs.Judged.Laws as LJudged
+use Rattle.open_calls.proofs.VerdictAt as RJudged
+use Rattle.open_calls.proofs.VerdictAt.Laws as LJudged
 use Rattle.open_calls.specs.declared.Joining.{Joining}
 use Rattle.open_calls.proofs.Joining as RJoining
 use Rattle.open_calls.proofs.Joining.Laws as LJoining

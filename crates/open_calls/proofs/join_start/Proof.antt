@@ -5,7 +5,7 @@ use Rattle.open_calls.proofs.join_start.Statement.{statement}
 use Rattle.open_calls.proofs.join_start.Tie as tie
 use Rattle.open_calls.proofs.join_start.Reads as reads
 use Rattle.open_calls.proofs.join_start.Lts as lts
-use Rattle.open_calls.proofs.is_refusal.Reads as is-refusal-reads
+use Rattle.open_calls.proofs.Verdict.is_refusal.Reads as is-refusal-reads
 use Rattle.open_calls.proofs.join_verdict.Reads as join-verdict-reads
 use Rattle.open_calls.proofs.refused_join.Reads as refused-join-reads
 

@@ -10,10 +10,10 @@ use Rattle.open_calls.proofs.show.Statement.{statement}
 use Rattle.open_calls.proofs.show.Tie as tie
 
 abbrev Inv-loop : tie.InvT-loop
-Inv-loop join all₀ k₀ all k = (k ≤ 8) × (all ≡ filledTo blank (λ j. shownNote (noteAt join j) j) k)
+Inv-loop join shown₀ k₀ shown k = (k ≤ 8) × (shown ≡ filledTo blank (λ j. shownNote (noteAt join j) j) k)
 
 abbrev μ-loop : tie.MeasureT-loop
-μ-loop join all₀ k₀ all k = 8 - k
+μ-loop join shown₀ k₀ shown k = 8 - k
 
 blank-requires : tie.Need-blank-requires Inv-loop μ-loop
 blank-requires c κs = search needs
@@ -30,11 +30,11 @@ array-read-show-note c = search needs
 show-note-requires : tie.Need-show-note-requires Inv-loop μ-loop
 show-note-requires c κs = search needs
 
-mul-all : tie.Need-mul-all Inv-loop μ-loop
-mul-all c = search needs
+mul-shown : tie.Need-mul-shown Inv-loop μ-loop
+mul-shown c = search needs
 
-array-set-from-all : tie.Need-array-set-from-all Inv-loop μ-loop
-array-set-from-all c = search needs
+array-set-from-shown : tie.Need-array-set-from-shown Inv-loop μ-loop
+array-set-from-shown c = search needs
 
 add-k : tie.Need-add-k Inv-loop μ-loop
 add-k c = search needs
@@ -60,8 +60,8 @@ show-spec =
     mul-show-note
     array-read-show-note
     show-note-requires
-    mul-all
-    array-set-from-all
+    mul-shown
+    array-set-from-shown
     add-k
     loop-less
     loop-again

@@ -6,7 +6,7 @@ use Rattle.detections.proofs.Writing.{beyond-none, beyond-then}
 use Rattle.detections.specs.Writing.{Beyond}
 use Rattle.emissions.specs.Emissions.{Emits, Emitting}
 use Rattle.occurrences.proofs.Packed.{stand-at, stand-length}
-use Rattle.occurrences.specs.Occurrences.{blank}
+use Rattle.occurrences.specs.Occurrences.{noOccurrence}
 use Rattle.occurrences.specs.Packed.{Notes, Stand}
 use Rattle.occurrences.specs.declared.Occurrence.{Occurrence}
 use Rattle.operators.proofs.Spares.{sides-own-few, spare-on}
@@ -77,7 +77,7 @@ and-arrival-requires c κs =
     let (some, fits, spare) = s .pre in
     let (t, w, v, k, e, h, j, g, m) = some in
     let was = a .loop .inv .5 t w v k e h j g m in
-    ((t, _, _, _, getD k (a .loop .i) blank, was .own, was .other, was .emit, stand-at t (now (s .args .arrivals)) k (a .loop .i) g (in-loop .loop-test .taken)), (a .loop .inv .2 .within, a .loop .inv .2 .few), spare-now in-loop)
+    ((t, _, _, _, getD k (a .loop .i) noOccurrence, was .own, was .other, was .emit, stand-at t (now (s .args .arrivals)) k (a .loop .i) g (in-loop .loop-test .taken)), (a .loop .inv .2 .within, a .loop .inv .2 .few), spare-now in-loop)
 
 add-i : tie.Need-add-i Inv-loop μ-loop
 add-i c = omega (arith, mul-and-arrival (c .before .before .before .before .before .before .before))
@@ -99,10 +99,10 @@ loop-again c =
       search needs,
       λ t w v k e h j g m.
           let in-k : a .loop .i < length k = omega (arith, in-loop .loop-test .taken, stand-length t arrivals k g) in
-          let x = getD k (a .loop .i) blank in
+          let x = getD k (a .loop .i) noOccurrence in
           let was = a .loop .inv .5 t w v k e h j g m in
           let met = rw (a .loop .inv .1) at (call .and-arrival .ensures .0 t _ _ _ x (was .own) (was .other) (was .emit) (stand-at t arrivals k (a .loop .i) g (in-loop .loop-test .taken))) in
-          subst (HoldsSides t _ _ _ _ _) (sides-step _ _ _ _ _ x refl ∙ sym (fold-before _ k (a .loop .i) (sides w v e) blank in-k)) met,
+          subst (HoldsSides t _ _ _ _ _) (sides-step _ _ _ _ _ x refl ∙ sym (fold-before _ k (a .loop .i) (sides w v e) noOccurrence in-k)) met,
     )
 
 same-length : tie.Need-same-length Inv-loop μ-loop

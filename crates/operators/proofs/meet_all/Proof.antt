@@ -6,7 +6,7 @@ use Rattle.detections.proofs.Writing.{beyond-none, beyond-then}
 use Rattle.detections.specs.Writing.{Beyond}
 use Rattle.emissions.specs.Emissions.{Emits, Emitting}
 use Rattle.occurrences.proofs.Packed.{stand-at, stand-length}
-use Rattle.occurrences.specs.Occurrences.{blank}
+use Rattle.occurrences.specs.Occurrences.{noOccurrence}
 use Rattle.occurrences.specs.Packed.{Notes, Stand}
 use Rattle.occurrences.specs.declared.Occurrence.{Occurrence}
 use Rattle.operators.proofs.Turns.{met-step}
@@ -60,7 +60,7 @@ before-arrival-requires c κs =
     let s = start-of in-loop in
     let (some, fits) = s .pre in
     let (t, w, k, e, h, g, m) = some in
-    (t, _, getD k (a .loop .i) blank, a .loop .inv .4 t w k e h g m .list, stand-at t (now (s .args .arrivals)) k (a .loop .i) g (in-loop .loop-test .taken))
+    (t, _, getD k (a .loop .i) noOccurrence, a .loop .inv .4 t w k e h g m .list, stand-at t (now (s .args .arrivals)) k (a .loop .i) g (in-loop .loop-test .taken))
 
 mul-meet : tie.Need-mul-meet Inv-loop μ-loop
 mul-meet c = search needs
@@ -76,7 +76,7 @@ meet-requires c κs =
     let (some, fits) = s .pre in
     let (t, w, k, e, h, g, m) = some in
     let now-met = a .loop .inv .4 t w k e h g m in
-    ((t, _, _, getD k (a .loop .i) blank, now-met .list, now-met .emit, stand-at t (now (s .args .arrivals)) k (a .loop .i) g (in-loop .loop-test .taken)), (a .loop .inv .2 .within, a .loop .inv .2 .few))
+    ((t, _, _, getD k (a .loop .i) noOccurrence, now-met .list, now-met .emit, stand-at t (now (s .args .arrivals)) k (a .loop .i) g (in-loop .loop-test .taken)), (a .loop .inv .2 .within, a .loop .inv .2 .few))
 
 add-i : tie.Need-add-i Inv-loop μ-loop
 add-i c = omega (arith, mul-before-arrival (c .before .before .before .before .before .before .before .before .before .before))
@@ -98,12 +98,12 @@ loop-again c =
       search needs,
       λ t w k e h g m.
           let in-k : a .loop .i < length k = omega (arith, in-loop .loop-test .taken, stand-length t arrivals k g) in
-          let x = getD k (a .loop .i) blank in
+          let x = getD k (a .loop .i) noOccurrence in
           let st = stand-at t arrivals k (a .loop .i) g (in-loop .loop-test .taken) in
           let was = a .loop .inv .4 t w k e h g m in
           let marks = marked .before-arrival .ensures t _ x (was .list) st in
           let met = rw (a .loop .inv .1) at (call .meet .ensures .0 t _ _ x (was .list) (was .emit) st) in
-          subst (HoldsMet t _ _ _ _) (met-step _ _ _ _ _ x _ marks refl ∙ sym (fold-before _ k (a .loop .i) (meeting w e) blank in-k)) met,
+          subst (HoldsMet t _ _ _ _) (met-step _ _ _ _ _ x _ marks refl ∙ sym (fold-before _ k (a .loop .i) (meeting w e) noOccurrence in-k)) met,
     )
 
 same-length : tie.Need-same-length Inv-loop μ-loop

@@ -11,18 +11,18 @@ use Rattle.operators.proofs.node_turn.Tie as tie
 use Rattle.operators.proofs.node_turn.Reads as reads
 use Rattle.operators.proofs.node_turn.Lts as lts
 use Rattle.operators.proofs.and_turn.Reads as and-turn-reads
-use Rattle.operators.proofs.fresh.Reads as fresh-reads
+use Rattle.operators.proofs.nothing_made.Reads as nothing-made-reads
 use Rattle.operators.proofs.or_turn.Reads as or-turn-reads
 use Rattle.operators.proofs.seq_turn.Reads as seq-turn-reads
 
-fresh-requires : tie.Need-fresh-requires
-fresh-requires c κs = search needs
+nothing-made-requires : tie.Need-nothing-made-requires
+nothing-made-requires c κs = search needs
 
 or-turn-requires : tie.Need-or-turn-requires
 or-turn-requires c κs =
     let new = c .before .before .before .before in
     let s = new .before .before .before .before in
-    let f = new .fresh .ensures in
+    let f = new .nothing-made .ensures in
     let (some, at, few, spares) = s .pre in
     let (t, x, y, a, b, h, j, g, i) = some in
     ((now (s .args .globals), t, a, b, _, g, i, f .0 _ _ t _ _), (omega (arith, f .1, at), omega (arith, f .1, f .2, few)))
@@ -34,7 +34,7 @@ returns : tie.Need-returns
 returns c =
     let call = c .before .before in
     let yes = call .before .before .before in
-    let f = yes .before .before .fresh .ensures in (
+    let f = yes .before .before .nothing-made .ensures in (
       (λ t x y a b h j g i. subst (HoldsTurned t _ _ _ _ _) (or-turn-is _ _ _ x y a b _ _ (yes .if1 .taken) _ refl)
           (record { left = h; right = j; emit = call .or-turn .ensures .0 _ t a b _ g i (f .0 _ _ t _ _) })),
       rw (f .1) at (call .or-turn .ensures .1),
@@ -46,7 +46,7 @@ and-turn-requires c κs =
     let no = yes .before .before in
     let new = no .before .before in
     let s = new .before .before .before .before in
-    let f = new .fresh .ensures in
+    let f = new .nothing-made .ensures in
     let (some, at, few, spares) = s .pre in
     let (t, x, y, a, b, h, j, g, i) = some in
     ((t, x, y, a, b, _, h, j, g, i, f .0 _ _ t _ _), (omega (arith, f .1, at), omega (arith, f .1, f .2, few)), spares .0 (no .if1 .left), spares .1 (yes .if2 .taken))
@@ -65,7 +65,7 @@ returns-2 c =
     let call = c .before .before .before .before in
     let yes = call .before .before .before .before .before in
     let no = yes .before .before in
-    let f = no .before .before .fresh .ensures in (
+    let f = no .before .before .nothing-made .ensures in (
       (λ t x y a b h j g i. subst (HoldsTurned t _ _ _ _ _) (and-turn-is _ _ _ x y a b _ _ (no .if1 .left) (yes .if2 .taken) _ refl)
           (call .and-turn .ensures .0 t x y a b _ h j g i (f .0 _ _ t _ _))),
       rw (f .1) at (call .and-turn .ensures .1),
@@ -77,7 +77,7 @@ seq-turn-requires c κs =
     let no = other .before .before in
     let new = no .before .before in
     let s = new .before .before .before .before in
-    let f = new .fresh .ensures in
+    let f = new .nothing-made .ensures in
     let (some, at, few, spares) = s .pre in
     let (t, x, y, a, b, h, j, g, i) = some in
     ((t, x, a, b, _, h, g, i, f .0 _ _ t _ _), (omega (arith, f .1, at), omega (arith, f .1, f .2, few)), sym (f .0 _ _ t [] [] .limit) ∙ number-none, spares .0 (no .if1 .left))
@@ -93,7 +93,7 @@ returns-3 c =
     let call = c .before .before .before in
     let other = call .before .before .before .before in
     let no = other .before .before in
-    let f = no .before .before .fresh .ensures in (
+    let f = no .before .before .nothing-made .ensures in (
       (λ t x y a b h j g i.
           let r = call .seq-turn .ensures .0 t x a b _ h g i (f .0 _ _ t _ _) in
           subst (HoldsTurned t _ _ _ _ _) (seq-turn-is _ _ _ x y a b _ _ (no .if1 .left) (other .if2 .left) _ refl) (record { left = r .list; right = j; emit = r .emit })),
@@ -104,7 +104,7 @@ pub node-turn-spec : {M : Type 1} → statement M
 node-turn-spec =
     tie.close
     (tie.spec
-    fresh-requires
+    nothing-made-requires
     or-turn-requires
     same-length
     returns

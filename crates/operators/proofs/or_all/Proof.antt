@@ -4,7 +4,7 @@ use Rattle.detections.proofs.Writing.{beyond-none, beyond-then}
 use Rattle.detections.specs.Writing.{Beyond}
 use Rattle.emissions.specs.Emissions.{Emits, Emitting, emitted, emittedAll}
 use Rattle.occurrences.proofs.Packed.{stand-at, stand-length, stands-within}
-use Rattle.occurrences.specs.Occurrences.{blank}
+use Rattle.occurrences.specs.Occurrences.{noOccurrence}
 use Rattle.occurrences.specs.Packed.{Notes, Stand}
 use Rattle.occurrences.specs.declared.Occurrence.{Occurrence}
 use Rattle.sequences.proofs.Loops.{fold-before, fold-none, fold-whole}
@@ -69,8 +69,8 @@ loop-again c =
       beyond-then (a .loop .inv .2) (call .ensures .1),
       λ globals t k e h m.
           let in-k : a .loop .i < length k = omega (arith, in-loop .loop-test .taken, stand-length t arrivals k h) in
-          let now-made = rw (a .loop .inv .1) at (call .ensures .0 globals t _ (getD k (a .loop .i) blank) (a .loop .inv .3 globals t k e h m) (stand-at t arrivals k (a .loop .i) h (in-loop .loop-test .taken))) in
-          subst (Emits t _ _ _) (sym (fold-before _ k (a .loop .i) e blank in-k)) now-made,
+          let now-made = rw (a .loop .inv .1) at (call .ensures .0 globals t _ (getD k (a .loop .i) noOccurrence) (a .loop .inv .3 globals t k e h m) (stand-at t arrivals k (a .loop .i) h (in-loop .loop-test .taken))) in
+          subst (Emits t _ _ _) (sym (fold-before _ k (a .loop .i) e noOccurrence in-k)) now-made,
     )
 
 same-length : tie.Need-same-length Inv-loop μ-loop

@@ -1,7 +1,7 @@
 -- Those before place i wait.
 use Prim.Native.Nat.{ℕ, _+_, _-_, _<_, _≤_}
 use Rattle.occurrences.proofs.Packed.{stand-at, stand-length}
-use Rattle.occurrences.specs.Occurrences.{blank}
+use Rattle.occurrences.specs.Occurrences.{noOccurrence}
 use Rattle.occurrences.specs.Packed.{Notes, Stand}
 use Rattle.occurrences.specs.declared.Occurrence.{Occurrence}
 use Rattle.operators.proofs.Spares.{appended-all-few, roomy-on}
@@ -66,7 +66,7 @@ loop-again c =
           let was = a .loop .inv .2 ticks globals t l k h g r in
           let grown : length (fold appendedTo (take i k) l) ≤ length l + i = omega (arith, appended-all-few (take i k) l, length-take i k) in
           let room = roomy-on list (a .loop .list) l (fold appendedTo (take i k) l) (length arrivals) i r (a .loop .inv .1) (waits-length t list l h) grown (in-loop .loop-test .taken) in
-          subst (Waits t _) (sym (fold-before appendedTo k i l blank in-k)) (call .append-to .ensures ticks globals t _ (getD k i blank) was room (stand-at t arrivals k i g (in-loop .loop-test .taken))),
+          subst (Waits t _) (sym (fold-before appendedTo k i l noOccurrence in-k)) (call .append-to .ensures ticks globals t _ (getD k i noOccurrence) was room (stand-at t arrivals k i g (in-loop .loop-test .taken))),
     )
 
 same-length : tie.Need-same-length Inv-loop μ-loop
