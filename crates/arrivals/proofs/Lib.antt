@@ -1,4 +1,5 @@
-pub mod Arrivals
+pub mod Actions
 pub mod Each
-pub mod Growth
+pub mod Meetings
 pub mod Views
+pub mod Waiting

@@ -1,2 +1,2 @@
-pub mod Arrivals
+pub mod Meetings
 pub mod Views

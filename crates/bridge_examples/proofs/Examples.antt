@@ -15,7 +15,7 @@ use Rattle.timestamps.specs.Order.{before, concurrent, clearlyEarlier, globalOf
 use Rattle.event_sets.specs.Sets.{isSet, has, elements, markedWith, unionOf}
 use Rattle.occurrences.specs.Combination.{combinationOf, combinedOf, eventsOf, stampsOf}
 use Rattle.occurrences.specs.Occurrences.{isBefore, ofEvent}
-use Rattle.waiting_lists.specs.Waiting.{isFull}
+use Rattle.waiting_lists.specs.Waiting.{appendedTo, isFull}
 use Rattle.contexts.specs.Choice.{andCandidates, chosen, removedOf, removes, seqCandidates, takenOf, takes}
 use Rattle.contexts.specs.Made.{madeOf}
 use Rattle.contexts.specs.Table.{rowOf}
@@ -28,23 +28,24 @@ use Rattle.passages.specs.Reader.{readPassage}
 use Rattle.detections.specs.Findings.{findingBytes}
 use Rattle.detections.specs.Views.{findingOf}
 use Rattle.emissions.specs.Emissions.{emitted, emittedAll, numberOf}
-use Rattle.arrivals.specs.Arrivals.{andArrived, findingsOf, joinsBy, metBy, restOf, waited}
-use Rattle.operators.specs.Turns.{arrived, nodeTurn, orArrived, seqLeft, seqRight}
+use Rattle.arrivals.specs.Meetings.{appended, candidatesOf, carriedOut, findingsOf, joinsBy, madeBy, meetingOf, waitsBy}
+use Rattle.operators.specs.Table.{actionOf, operatorOf}
+use Rattle.operators.specs.Turns.{arrives, inOrder, inputTurn, meetingAt, nodeTurn, sidesOf, turnedOf}
 use Rattle.progress.specs.Progress.{arrivalsOf, closed, eventStep, nodeStep, numbersByPlace, runOf, start, turnAt, turned}
 use Rattle.working.specs.Working.{worked}
 use Rattle.bridge_examples.specs.Examples.{eachWith, holds, limits, operators, sameNumbers, sameWork, sevens, table}
 
 -- every row of the table: J1 to J8, D1 to D4
 pub table-holds : eachPasses holds table ≡ true
-unfolding table holds sameWork sameNumbers stamps.table stamps.holds stamps.sameStamps groupJoin concurrent allConcurrent weaklyBefore worked readPlan planAt readPassage passageEvents eventsIn placeIn section entries piece values valueOf runOf numbersByPlace start eventStep closed nodeStep turned turnAt arrivalsOf nodeTurn arrived seqLeft seqRight waited metBy restOf findingsOf emitted emittedAll numberOf findingBytes findingOf sectionBytes each bigEndian rowOf madeOf seqCandidates chosen takenOf takes removedOf removes isFull isBefore ofEvent combinationOf combinedOf eventsOf stampsOf isSet has elements markedWith unionOf before clearlyEarlier globalOf maxima joinOf members tickOf compositeOf allBefore filter somePasses eachPasses numbersFrom marked unmarked padded zipWith fold loop
+unfolding table holds sameWork sameNumbers stamps.table stamps.holds stamps.sameStamps groupJoin concurrent allConcurrent weaklyBefore worked readPlan planAt readPassage passageEvents eventsIn placeIn section entries piece values valueOf runOf numbersByPlace start eventStep closed nodeStep turned turnAt arrivalsOf nodeTurn inputTurn inOrder arrives turnedOf meetingAt sidesOf actionOf operatorOf carriedOut appended appendedTo meetingOf candidatesOf madeBy waitsBy findingsOf emitted emittedAll numberOf findingBytes findingOf sectionBytes each bigEndian rowOf madeOf seqCandidates chosen takenOf takes removedOf removes isFull isBefore ofEvent combinationOf combinedOf eventsOf stampsOf isSet has elements markedWith unionOf before clearlyEarlier globalOf maxima joinOf members tickOf compositeOf allBefore filter somePasses eachPasses numbersFrom marked unmarked padded zipWith fold loop
 table-holds = refl
 
 -- every limit
 pub limits-hold : eachPasses holds limits ≡ true
-unfolding limits sevens eachWith holds sameWork sameNumbers worked readPlan planAt readPassage passageEvents eventsIn placeIn section entries piece values valueOf runOf numbersByPlace start eventStep closed nodeStep turned turnAt arrivalsOf nodeTurn arrived seqLeft seqRight waited metBy restOf findingsOf emitted emittedAll numberOf findingBytes findingOf sectionBytes each bigEndian rowOf madeOf seqCandidates chosen takenOf takes removedOf removes isFull isBefore ofEvent combinationOf combinedOf eventsOf stampsOf isSet has elements markedWith unionOf before clearlyEarlier globalOf maxima joinOf members tickOf compositeOf allBefore filter somePasses eachPasses numbersFrom marked unmarked padded zipWith fold loop
+unfolding limits sevens eachWith holds sameWork sameNumbers worked readPlan planAt readPassage passageEvents eventsIn placeIn section entries piece values valueOf runOf numbersByPlace start eventStep closed nodeStep turned turnAt arrivalsOf nodeTurn inputTurn inOrder arrives turnedOf meetingAt sidesOf actionOf operatorOf carriedOut appended appendedTo meetingOf candidatesOf madeBy waitsBy findingsOf emitted emittedAll numberOf findingBytes findingOf sectionBytes each bigEndian rowOf madeOf seqCandidates chosen takenOf takes removedOf removes isFull isBefore ofEvent combinationOf combinedOf eventsOf stampsOf isSet has elements markedWith unionOf before clearlyEarlier globalOf maxima joinOf members tickOf compositeOf allBefore filter somePasses eachPasses numbersFrom marked unmarked padded zipWith fold loop
 limits-hold = refl
 
 -- what stays and what goes, by operator and context
 pub operators-hold : eachPasses holds operators ≡ true
-unfolding operators holds sameWork sameNumbers andArrived joinsBy orArrived andCandidates worked readPlan planAt readPassage passageEvents eventsIn placeIn section entries piece values valueOf runOf numbersByPlace start eventStep closed nodeStep turned turnAt arrivalsOf nodeTurn arrived seqLeft seqRight waited metBy restOf findingsOf emitted emittedAll numberOf findingBytes findingOf sectionBytes each bigEndian rowOf madeOf seqCandidates chosen takenOf takes removedOf removes isFull isBefore ofEvent combinationOf combinedOf eventsOf stampsOf isSet has elements markedWith unionOf before clearlyEarlier globalOf maxima joinOf members tickOf compositeOf allBefore filter somePasses eachPasses numbersFrom marked unmarked padded zipWith fold loop
+unfolding operators holds sameWork sameNumbers joinsBy andCandidates worked readPlan planAt readPassage passageEvents eventsIn placeIn section entries piece values valueOf runOf numbersByPlace start eventStep closed nodeStep turned turnAt arrivalsOf nodeTurn inputTurn inOrder arrives turnedOf meetingAt sidesOf actionOf operatorOf carriedOut appended appendedTo meetingOf candidatesOf madeBy waitsBy findingsOf emitted emittedAll numberOf findingBytes findingOf sectionBytes each bigEndian rowOf madeOf seqCandidates chosen takenOf takes removedOf removes isFull isBefore ofEvent combinationOf combinedOf eventsOf stampsOf isSet has elements markedWith unionOf before clearlyEarlier globalOf maxima joinOf members tickOf compositeOf allBefore filter somePasses eachPasses numbersFrom marked unmarked padded zipWith fold loop
 operators-hold = refl

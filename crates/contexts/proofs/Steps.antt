@@ -32,7 +32,7 @@ use Rattle.waiting_lists.proofs.Marks.{length-marks, marks-and, marks-less, mar
 use Rattle.contexts.specs.declared.Row.{Row}
 use Rattle.contexts.specs.Choice.{andCandidates, chosen, removedOf, removes, takenOf, takes}
 use Rattle.contexts.specs.Steps.{Lows, barsOf}
-use Rattle.contexts.specs.Table.{Taken, latest, earliest, every, each, together, untaken, taken, all, Context, takesOf, findsOf, removesOf, contextOf}
+use Rattle.contexts.specs.Table.{Taken, latest, earliest, every, each, together, untaken, taken, all, joins, consumed, Context, takesOf, findsOf, removesOf, afterwardsOf, contextOf}
 
 -- ---- codes
 module _ (code : ℕ) where
@@ -252,3 +252,12 @@ finds-each x row e f = sym (ap (λ s. s .finds) e) ∙ code-each (row .findings)
 pub finds-together : (x : Context) (row : Row) → contextOf row ≡ x → (row .findings ≡ 0 → ⊥) → x .finds ≡ together
 unfolding contextOf
 finds-together x row e n = sym (ap (λ s. s .finds) e) ∙ code-together (row .findings) n
+
+-- ---- of an arrival that met candidates
+pub afterwards-joins : (x : Context) (row : Row) → contextOf row ≡ x → row .afterwards ≡ 0 → x .afterwards ≡ joins
+unfolding contextOf afterwardsOf
+afterwards-joins x row e f = sym (ap (λ s. s .afterwards) e) ∙ rw f
+
+pub afterwards-consumed : (x : Context) (row : Row) → contextOf row ≡ x → (row .afterwards ≡ 0 → ⊥) → x .afterwards ≡ consumed
+unfolding contextOf afterwardsOf
+afterwards-consumed x row e n = sym (ap (λ s. s .afterwards) e) ∙ rw (ne-eqb (row .afterwards) 0 n)

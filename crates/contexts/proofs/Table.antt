@@ -6,7 +6,7 @@ use native.Mathlib.Omega.{arith}
 use lib.ListN.{getD, List·getD-eq-default}
 use Rattle.sequences.proofs.Parts.{getD-map}
 use Rattle.contexts.specs.declared.Row.{Row}
-use Rattle.contexts.specs.Table.{recent, table, rowOf, takesOf, findsOf, removesOf, contextOf}
+use Rattle.contexts.specs.Table.{recent, table, rowOf, takesOf, findsOf, removesOf, afterwardsOf, contextOf}
 
 -- contexts 1 to 4 are the four rows, in order
 pub contexts-are : map rowOf (1 ∷ 2 ∷ 3 ∷ 4 ∷ []) ≡ table
@@ -14,19 +14,19 @@ unfolding rowOf
 contexts-are = refl
 
 -- the codes of the code's table
-abbrev codes : ℕ → ℕ → ℕ → Row
-codes t f r = record { taken = t; findings = f; removed = r }
+abbrev codes : ℕ → ℕ → ℕ → ℕ → Row
+codes t f r a = record { taken = t; findings = f; removed = r; afterwards = a }
 
 abbrev rows : List Row
-rows = codes 0 0 0 ∷ codes 1 0 1 ∷ codes 2 0 2 ∷ codes 2 1 2 ∷ []
+rows = codes 0 0 0 0 ∷ codes 1 0 1 1 ∷ codes 2 0 2 1 ∷ codes 2 1 2 1 ∷ []
 
 -- what the code's table is read as past its end
 abbrev pub noRow : Row
-noRow = codes 0 0 0
+noRow = codes 0 0 0 0
 
 -- each row says what document 01's row says
 pub rows-say : map contextOf rows ≡ table
-unfolding contextOf takesOf findsOf removesOf
+unfolding contextOf takesOf findsOf removesOf afterwardsOf
 rows-say = refl
 
 -- so a row of codes says what the row at its place says

@@ -18,23 +18,28 @@ pub data Findings : Type 0 where
 pub data Removed : Type 0 where
   untaken taken all : Removed
 
+-- Afterwards, of an arrival at AND that met candidates: it joins its own side's list; it is consumed
+pub data Afterwards : Type 0 where
+  joins consumed : Afterwards
+
 -- a context is a row of the table
 pub record Context : Type 0 where
   pub takes : Taken
   pub finds : Findings
   pub removes : Removed
+  pub afterwards : Afterwards
 
 abbrev pub recent : Context
-recent = record { takes = latest; finds = each; removes = untaken }
+recent = record { takes = latest; finds = each; removes = untaken; afterwards = joins }
 
 abbrev pub chronicle : Context
-chronicle = record { takes = earliest; finds = each; removes = taken }
+chronicle = record { takes = earliest; finds = each; removes = taken; afterwards = consumed }
 
 abbrev pub continuous : Context
-continuous = record { takes = every; finds = each; removes = all }
+continuous = record { takes = every; finds = each; removes = all; afterwards = consumed }
 
 abbrev pub cumulative : Context
-cumulative = record { takes = every; finds = together; removes = all }
+cumulative = record { takes = every; finds = together; removes = all; afterwards = consumed }
 
 -- the table, in document 01's order
 abbrev pub table : List Context
@@ -54,6 +59,9 @@ findsOf code = pick (eqb code 0) each together
 unfoldable pub removesOf : ℕ → Removed
 removesOf code = pick (eqb code 0) untaken (pick (eqb code 1) taken all)
 
+unfoldable pub afterwardsOf : ℕ → Afterwards
+afterwardsOf code = pick (eqb code 0) joins consumed
+
 -- what a row of codes says
 unfoldable pub contextOf : Row → Context
-contextOf r = record { takes = takesOf (r .taken); finds = findsOf (r .findings); removes = removesOf (r .removed) }
+contextOf r = record { takes = takesOf (r .taken); finds = findsOf (r .findings); removes = removesOf (r .removed); afterwards = afterwardsOf (r .afterwards) }

@@ -19,7 +19,7 @@ ghost use Rattle.waiting_lists.specs.Lists.{Arrives, Known, Waits, listOf};
 ghost use Rattle.waiting_lists.specs.Marks.{marksOf};
 ghost use Rattle.contexts.specs.Choice.{andCandidates, chosen, removedOf, seqCandidates, takenOf, takes};
 ghost use Rattle.contexts.specs.Steps.{Lows, barsOf};
-ghost use Rattle.contexts.specs.Table.{contextOf, each, recent, removesOf, rowOf, table, takesOf, together};
+ghost use Rattle.contexts.specs.Table.{consumed, contextOf, each, joins, recent, removesOf, rowOf, table, takesOf, together};
 
 // ---- the table
 
@@ -28,6 +28,7 @@ pub struct Row {
     pub taken: u8,
     pub findings: u8,
     pub removed: u8,
+    pub afterwards: u8,
 }
 
 impl Row {
@@ -47,6 +48,10 @@ impl Row {
     pub const TAKEN: u8 = 1;
 
     pub const ALL: u8 = 2;
+    // Afterwards, of an arrival at AND that met candidates: it joins its own side's list; it is consumed.
+    pub const JOINS: u8 = 0;
+
+    pub const CONSUMED: u8 = 1;
 }
 
 // The table, in document 01's order: contexts 1 to 4.
@@ -56,24 +61,28 @@ const ROWS: [Row; 4] = [
         taken: Row::LATEST,
         findings: Row::EACH,
         removed: Row::UNTAKEN,
+        afterwards: Row::JOINS,
     },
     // chronicle
     Row {
         taken: Row::EARLIEST,
         findings: Row::EACH,
         removed: Row::TAKEN,
+        afterwards: Row::CONSUMED,
     },
     // continuous
     Row {
         taken: Row::EVERY,
         findings: Row::EACH,
         removed: Row::ALL,
+        afterwards: Row::CONSUMED,
     },
     // cumulative
     Row {
         taken: Row::EVERY,
         findings: Row::TOGETHER,
         removed: Row::ALL,
+        afterwards: Row::CONSUMED,
     },
 ];
 
@@ -385,6 +394,14 @@ pub fn makes_each(context: u64) -> bool
 {
     let row = row_of(context);
     row.findings == Row::EACH
+}
+
+// Whether an arrival at AND that met candidates joins its own side's list, or is consumed.
+pub fn joins_afterwards(context: u64) -> bool
+    ensures { λ r. ⌜ (r ≡ true → rowOf context .afterwards ≡ joins) × (r ≡ false → rowOf context .afterwards ≡ consumed) ⌝ }
+{
+    let row = row_of(context);
+    row.afterwards == Row::JOINS
 }
 
 // The arrival combined with all taken, in waiting order.

@@ -1,5 +1,6 @@
 pub mod Answers
-pub mod Clear
 pub mod Events
 pub mod Rows
+pub mod Running
+pub mod Standing
 pub mod Turned

@@ -1,6 +1,6 @@
 -- One finding: which way it goes.
 use mathlib.Core.Bool.{Bool, true, false, not}
-use mathlib.Core.List.{List}
+use mathlib.Core.List.{List, [], _∷_}
 use mathlib.Core.Path.{_≡_, refl, sym, ap, ap₂, _∙_}
 use Prim.Native.Nat.{ℕ, min, _+_, _-_, _≤_, _<_}
 use native.Mathlib.Omega.{arith}
@@ -15,9 +15,9 @@ use Rattle.detections.proofs.Writing.{wrote-prefix}
 use Rattle.occurrences.specs.declared.Occurrence.{Occurrence}
 use Rattle.occurrences.specs.Packed.{Notes, Stands}
 use Rattle.occurrences.proofs.Packed.{stand-length, stand-more}
-use Rattle.emissions.specs.declared.Emit.{Emit}
+use Rattle.emissions.specs.declared.Limit.{Limit}
 use Rattle.emissions.specs.declared.Limit.the-variants.{None, NodeFull, OutputFull}
-use Rattle.emissions.specs.Emissions.{Emits, Emitting, bytesOf, emitted, ended, numberOf, reached}
+use Rattle.emissions.specs.Emissions.{Emits, Emitting, bytesOf, emitted, ended, findingsIn, madeIn, placeIn}
 
 -- ---- what the test for room says
 module _ (size at room : ℕ) (within : at ≤ room) {r : Bool} (told : r ≡ leb size (room - at)) where
@@ -27,62 +27,53 @@ module _ (size at room : ℕ) (within : at ≤ room) {r : Bool} (told : r ≡ le
   pub has-room : not r ≡ false → at + size ≤ room
   has-room h = omega (arith, leb-true size (room - at) (sym told ∙ not-false r h))
 
--- ---- under a limit, of which n is the number
-pub emits-ended : {ticks globals : List ℕ} (t : Notes ticks globals) {e : Emit} {row : List (List ℕ)} {out : List ℕ} {s : Emitting} → Emits t e row out s
-    → (n : ℕ) → Emits t (record { limit = n; made = e .made; findings = e .findings; at = e .at }) row out (ended s n)
-emits-ended t h n = record { made = h .made; findings = h .findings; bytes = h .bytes; limit = refl }
+-- ---- under a limit
+pub emits-ended : {ticks globals : List ℕ} (t : Notes ticks globals) {met : Limit} {tally : List ℕ} {row : List (List ℕ)} {out : List ℕ} {s : Emitting} → Emits t met tally row out s
+    → (l : Limit) → Emits t l tally row out (ended s l)
+emits-ended t h l = record { made = h .made; findings = h .findings; bytes = h .bytes; limit = refl }
 
--- ---- one of four ways
-module _ {ticks globals : List ℕ} (t : Notes ticks globals) (loggers : List ℕ) (place : ℕ) {e : Emit} {row : List (List ℕ)} {out p : List ℕ}
-    {s : Emitting} {x : Occurrence} (h : Emits t e row out s) (o : Stands t p x) where
+pub emits-as : {ticks globals : List ℕ} (t : Notes ticks globals) {met : Limit} {tally : List ℕ} {row : List (List ℕ)} {out : List ℕ} {s : Emitting} → Emits t met tally row out s
+    → (l : Limit) → met ≡ l → Emits t l tally row out s
+emits-as t h l e = record { made = h .made; findings = h .findings; bytes = h .bytes; limit = h .limit ∙ e }
+
+-- ---- one of three ways
+module _ {ticks globals : List ℕ} (t : Notes ticks globals) (loggers : List ℕ) (place : ℕ) {tally : List ℕ} {row : List (List ℕ)} {out p : List ℕ}
+    {s : Emitting} {x : Occurrence} (h : Emits t None tally row out s) (o : Stands t p x) (eight : length row ≡ 8) where
   abbrev next : Emitting
   next = emitted (length out) loggers place s x
 
-  abbrev Ended : ℕ → Type 0
-  Ended n = Emits t (record { limit = n; made = e .made; findings = e .findings; at = e .at }) row out next
+  made-so-far : length (s .made) ≡ min (madeIn tally) 8
+  made-so-far = sym (stand-length t (take (madeIn tally) row) (s .made) (h .made)) ∙ length-take (madeIn tally) row ∙ ap (min (madeIn tally)) eight
 
-  pub emits-stopped : reached (e .limit) ≡ true → Emits t e row out next
+  pub emits-ninth : 8 ≤ madeIn tally → Emits t NodeFull tally row out next
   unfolding emitted
-  emits-stopped a = rw (ap reached (h .limit) ∙ a) h
+  emits-ninth k = rw (h .limit, le-leb 8 (length (s .made)) (omega (arith, made-so-far))) (emits-ended t h NodeFull)
 
-  module _ (go : reached (e .limit) ≡ false) (eight : length row ≡ 8) where
-    made-so-far : length (s .made) ≡ min (e .made) 8
-    made-so-far = sym (stand-length t (take (e .made) row) (s .made) (h .made)) ∙ length-take (e .made) row ∙ ap (min (e .made)) eight
+  module _ (few : madeIn tally < 8) (within : placeIn tally ≤ length out) where
+    fewer : leb 8 (length (s .made)) ≡ false
+    fewer = lt-leb 8 (length (s .made)) (omega (arith, made-so-far))
 
-    pub emits-ninth : 8 ≤ e .made → Ended (numberOf NodeFull)
+    abbrev size : ℕ
+    size = length (writtenBytes ticks loggers place p)
+
+    same-bytes : writtenBytes ticks loggers place p ≡ bytesOf loggers place x
+    same-bytes = ap (bytesOf loggers place) (o .same)
+
+    bytes-then : length (s .bytes) + length (bytesOf loggers place x) ≡ placeIn tally + size
+    bytes-then = ap₂ (λ m n. m + n) (ap length (h .bytes) ∙ length-take-le (placeIn tally) out within) (sym (ap length same-bytes))
+
+    pub emits-no-room : length out < placeIn tally + size → Emits t OutputFull tally row out next
     unfolding emitted
-    emits-ninth k =
-        rw (h .limit, go, le-leb 8 (length (s .made)) (omega (arith, made-so-far)))
-        (emits-ended t h (numberOf NodeFull))
+    emits-no-room l = rw (h .limit, fewer, bytes-then, lt-ltb (length out) (placeIn tally + size) l) (emits-ended t h OutputFull)
 
-    module _ (few : e .made < 8) (within : e .at ≤ length out) where
-      fewer : leb 8 (length (s .made)) ≡ false
-      fewer = lt-leb 8 (length (s .made)) (omega (arith, made-so-far))
-
-      abbrev size : ℕ
-      size = length (writtenBytes ticks loggers place p)
-
-      same-bytes : writtenBytes ticks loggers place p ≡ bytesOf loggers place x
-      same-bytes = ap (bytesOf loggers place) (o .same)
-
-      bytes-then : length (s .bytes) + length (bytesOf loggers place x) ≡ e .at + size
-      bytes-then = ap₂ (λ m n. m + n) (ap length (h .bytes) ∙ length-take-le (e .at) out within) (sym (ap length same-bytes))
-
-      pub emits-no-room : length out < e .at + size → Ended (numberOf OutputFull)
-      unfolding emitted
-      emits-no-room l =
-          rw (h .limit, go, fewer, bytes-then, lt-ltb (length out) (e .at + size) l)
-          (emits-ended t h (numberOf OutputFull))
-
-      pub emits-go : {at′ limit′ : ℕ} {out′ : List ℕ} → e .at + size ≤ length out → limit′ ≡ numberOf None
-          → Wrote out (e .at) (writtenBytes ticks loggers place p) at′ out′
-          → Emits t (record { limit = limit′; made = e .made + 1; findings = e .findings + 1; at = at′ }) (set row (e .made) p) out′ next
-      unfolding emitted
-      emits-go l n w =
-          rw (h .limit, go, fewer, bytes-then, le-ltb (length out) (e .at + size) l)
-          (record {
-            made = rw (append-room 8 row (e .made) eight p few) (stand-more t (h .made) o);
-            findings = ap (λ m. m + 1) (h .findings);
-            bytes = rw (h .bytes, ← same-bytes) (sym (wrote-prefix within w));
-            limit = sym n;
-          })
+    pub emits-go : {at′ : ℕ} {out′ : List ℕ} → placeIn tally + size ≤ length out → Wrote out (placeIn tally) (writtenBytes ticks loggers place p) at′ out′
+        → Emits t None ((madeIn tally + 1) ∷ (findingsIn tally + 1) ∷ at′ ∷ []) (set row (madeIn tally) p) out′ next
+    unfolding emitted
+    emits-go l w =
+        rw (h .limit, fewer, bytes-then, le-ltb (length out) (placeIn tally + size) l)
+        (record {
+          made = rw (append-room 8 row (madeIn tally) eight p few) (stand-more t (h .made) o);
+          findings = ap (λ m. m + 1) (h .findings);
+          bytes = rw (h .bytes, ← same-bytes) (sym (wrote-prefix within w));
+          limit = refl;
+        })

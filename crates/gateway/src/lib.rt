@@ -1,22 +1,28 @@
 // File working: a passage under a plan, both from their bytes, into a lent output.
 use detections::LoggerNumbers;
+use emissions::Limit;
 use passages::Places;
 use plans::Kinds;
 use plans::Loggers;
 use plans::Nodes;
+use slots::KindPlaces;
+use slots::Seats;
+use slots::SlotTakers;
 use working::Answer;
 ghost use mathlib.Core.Bool.{true};
 ghost use mathlib.Core.List.{List};
 ghost use mathlib.Core.Path.{_≡_};
-ghost use Prim.Native.Nat.{ℕ, min, _+_, _≤_};
+ghost use Prim.Native.Nat.{ℕ, _≤_, _<_};
+ghost use lib.ListN.{getD};
 ghost use Rattle.sequences.specs.Choice.{pick};
 ghost use Rattle.passages.specs.Views.{Room};
 ghost use Rattle.emissions.specs.Emissions.{reached};
 ghost use Rattle.progress.specs.Progress.{Progress};
-ghost use Rattle.detector.specs.Steps.{Noticed, Runs, Says};
+ghost use Rattle.progress.specs.Seats.{Enough};
+ghost use Rattle.detector.specs.Steps.{Noticed, Says};
 ghost use Rattle.working.specs.Latest.{LatestWritten};
 ghost use Rattle.working.specs.Working.{Answers, FilesWorked, endOf, turnedBack};
-ghost use Rattle.gateway.specs.Steps.{PlanHeld, WorkedUnder};
+ghost use Rattle.gateway.specs.Steps.{PlanHeld, RunsSeated, RunsUnder, SomeSeated, WorkedUnder};
 
 // A file is turned back: no finding, no byte.
 fn turned_back(number: u64, place: usize) -> Answer
@@ -31,43 +37,203 @@ fn turned_back(number: u64, place: usize) -> Answer
 }
 
 // The place of an answer: the event that met the limit, or 0.
-fn place_of(number: u64, event: usize) -> u64
-    ensures { λ r. ⌜ r ≡ pick (reached number) event 0 ⌝ }
+fn place_of(limit: Limit, event: usize) -> u64
+    ensures { λ r. ⌜ r ≡ pick (reached limit) event 0 ⌝ }
 {
-    if 0 < number { event as u64 } else { 0 }
+    if limit.is_reached() { event as u64 } else { 0 }
 }
 
 // The answer on a run.
 fn ended(run: detector::Run) -> Answer
     ensures { λ r. ⌜ ((p : Progress) (out out′ : List ℕ) → Says p out run out′ → Answers (endOf p) out r out′) ⌝ }
 {
-    let number = run.limit;
+    let limit = run.limit;
     Answer {
-        number: number,
-        place: place_of(number, run.event),
+        number: limit.number(),
+        place: place_of(limit, run.event),
         findings: run.findings,
         bytes: run.bytes as u64,
     }
 }
 
-// How many places a list that takes a kind is given, with the one for the list itself: as many as there are events, and 16 at most.
-fn most_places(count: usize) -> u16
-    ensures { λ r. ⌜ r ≡ min count 16 + 1 ⌝ }
+// For each kind how many places a list that takes it is given: the events are counted where they are few.
+fn places_for(kinds: &Places, count: usize) -> KindPlaces
+    requires { ⌜ (count ≤ 128) × ((i : ℕ) → i < count → getD (now kinds) i 0 < 33) ⌝ }
+    ensures { λ r. ⌜ Enough count (now (kinds .entry)) r ⌝ }
 {
-    if count < 16 { count as u16 + 1 } else { 17 }
+    if 64 <= count {
+        return [16u8; 34];
+    }
+    let mut places = [0u8; 34];
+    slots::count_kinds(kinds, count, &mut places);
+    places
 }
 
-// Whether so many places are enough: on the left, on the right, and for what is made.
-fn fits(l: u16, lefts: u16, r: u16, rights: u16, m: u16, made: u16) -> bool
-    ensures { λ b. ⌜ (b ≡ true → (l ≤ lefts) × (r ≤ rights) × (m ≤ made)) ⌝ }
+// Whether so many places are enough: for lists, and for what is made.
+fn fits(l: u16, lists: u16, m: u16, made: u16) -> bool
+    ensures { λ b. ⌜ (b ≡ true → (l ≤ lists) × (m ≤ made)) ⌝ }
 {
-    if lefts < l {
-        return false;
-    }
-    if rights < r {
+    if lists < l {
         return false;
     }
     m <= made
+}
+
+// The run over seated nodes, where 40 places for lists are enough and 17 for what is made.
+fn run_small(
+    numbers: &LoggerNumbers,
+    seats: &Seats,
+    takers: &SlotTakers,
+    l: u16,
+    m: u16,
+    count: usize,
+    kinds: &Places,
+    loggers: &Places,
+    ticks: &[u64],
+    globals: &[u64],
+    output: &mut [u8],
+) -> detector::Run
+    requires { ⌜ (l ≤ 40) × (m ≤ 17) × SomeSeated count (now kinds) (now takers) (now seats) l m
+        × Noticed count (now kinds) (now loggers) (now ticks) (now globals) ⌝ }
+    ensures { λ r. ⌜ RunsSeated (now (numbers .entry)) (now (takers .entry)) (now (seats .entry)) l m count (now (kinds .entry)) (now (loggers .entry))
+        (now (ticks .entry)) (now (globals .entry)) (now (output .entry)) r (now (output .exit)) ⌝ }
+{
+    if fits(l, 10, m, 9) {
+        let mut lists = [[0u64; 3]; 10];
+        let mut made = [[0u64; 3]; 9];
+        return detector::run_in(
+            numbers,
+            seats,
+            takers,
+            count,
+            kinds,
+            loggers,
+            ticks,
+            globals,
+            &mut lists,
+            &mut made,
+            output,
+        );
+    }
+    let mut lists = [[0u64; 3]; 40];
+    let mut made = [[0u64; 3]; 17];
+    detector::run_in(
+        numbers,
+        seats,
+        takers,
+        count,
+        kinds,
+        loggers,
+        ticks,
+        globals,
+        &mut lists,
+        &mut made,
+        output,
+    )
+}
+
+// The same with up to 296 and 40.
+fn run_middle(
+    numbers: &LoggerNumbers,
+    seats: &Seats,
+    takers: &SlotTakers,
+    l: u16,
+    m: u16,
+    count: usize,
+    kinds: &Places,
+    loggers: &Places,
+    ticks: &[u64],
+    globals: &[u64],
+    output: &mut [u8],
+) -> detector::Run
+    requires { ⌜ (l ≤ 296) × (m ≤ 40) × SomeSeated count (now kinds) (now takers) (now seats) l m
+        × Noticed count (now kinds) (now loggers) (now ticks) (now globals) ⌝ }
+    ensures { λ r. ⌜ RunsSeated (now (numbers .entry)) (now (takers .entry)) (now (seats .entry)) l m count (now (kinds .entry)) (now (loggers .entry))
+        (now (ticks .entry)) (now (globals .entry)) (now (output .entry)) r (now (output .exit)) ⌝ }
+{
+    if fits(l, 152, m, 40) {
+        let mut lists = [[0u64; 3]; 152];
+        let mut made = [[0u64; 3]; 40];
+        return detector::run_in(
+            numbers,
+            seats,
+            takers,
+            count,
+            kinds,
+            loggers,
+            ticks,
+            globals,
+            &mut lists,
+            &mut made,
+            output,
+        );
+    }
+    let mut lists = [[0u64; 3]; 296];
+    let mut made = [[0u64; 3]; 40];
+    detector::run_in(
+        numbers,
+        seats,
+        takers,
+        count,
+        kinds,
+        loggers,
+        ticks,
+        globals,
+        &mut lists,
+        &mut made,
+        output,
+    )
+}
+
+// The same with up to 544 and 136, which are enough for 16 nodes.
+fn run_large(
+    numbers: &LoggerNumbers,
+    seats: &Seats,
+    takers: &SlotTakers,
+    l: u16,
+    m: u16,
+    count: usize,
+    kinds: &Places,
+    loggers: &Places,
+    ticks: &[u64],
+    globals: &[u64],
+    output: &mut [u8],
+) -> detector::Run
+    requires { ⌜ (l ≤ 544) × (m ≤ 136) × SomeSeated count (now kinds) (now takers) (now seats) l m
+        × Noticed count (now kinds) (now loggers) (now ticks) (now globals) ⌝ }
+    ensures { λ r. ⌜ RunsSeated (now (numbers .entry)) (now (takers .entry)) (now (seats .entry)) l m count (now (kinds .entry)) (now (loggers .entry))
+        (now (ticks .entry)) (now (globals .entry)) (now (output .entry)) r (now (output .exit)) ⌝ }
+{
+    if fits(l, 296, m, 40) {
+        return run_middle(
+            numbers,
+            seats,
+            takers,
+            l,
+            m,
+            count,
+            kinds,
+            loggers,
+            ticks,
+            globals,
+            output,
+        );
+    }
+    let mut lists = [[0u64; 3]; 544];
+    let mut made = [[0u64; 3]; 136];
+    detector::run_in(
+        numbers,
+        seats,
+        takers,
+        count,
+        kinds,
+        loggers,
+        ticks,
+        globals,
+        &mut lists,
+        &mut made,
+        output,
+    )
 }
 
 // The events of a checked passage under its plan, with as many places for waiting lists and for what the nodes make as there is use for: all that is lent is
@@ -84,154 +250,42 @@ fn run_in_rows(
     output: &mut [u8],
 ) -> detector::Run
     requires { ⌜ (n ≤ 16) × Noticed count (now «kind_places») (now «logger_places») (now ticks) (now globals) ⌝ }
-    ensures { λ r. ⌜ Runs (now (numbers .entry)) (now (nodes .entry)) n count (now («kind_places» .entry)) (now («logger_places» .entry))
+    ensures { λ r. ⌜ RunsUnder (now (numbers .entry)) (now (nodes .entry)) n count (now («kind_places» .entry)) (now («logger_places» .entry))
         (now (ticks .entry)) (now (globals .entry)) (now (output .entry)) r (now (output .exit)) ⌝ }
 {
-    let mut left_slot = [0u8; 16];
-    let mut right_slot = [0u8; 16];
+    let places = places_for(kind_places, count);
+    let mut seats = [0u16; 136];
     let mut takers = [0u16; 50];
-    slots::slots_of(nodes, n, 2, &mut left_slot);
-    slots::slots_of(nodes, n, 3, &mut right_slot);
-    slots::takers(&left_slot, &right_slot, n, &mut takers);
-    let most = most_places(count);
-    let mut left_at = [0u16; 17];
-    let mut right_at = [0u16; 17];
-    let mut made_at = [0u16; 18];
-    slots::parts(
-        nodes,
-        n,
-        &left_slot,
-        &right_slot,
-        &takers,
-        most,
-        &mut left_at,
-        &mut right_at,
-        &mut made_at,
-    );
-    let l = left_at[n];
-    let r = right_at[n];
-    let m = made_at[n + 1];
-    if fits(l, 17, r, 17, m, 9) {
-        let mut lefts = [[0u64; 3]; 17];
-        let mut rights = [[0u64; 3]; 17];
-        let mut made = [[0u64; 3]; 9];
-        return detector::run_in(
+    slots::seat_nodes(nodes, n, &places, &mut seats, &mut takers);
+    slots::seat_made(nodes, n, &takers, &mut seats);
+    let l = seats[slots::SEAT * n + slots::LIST];
+    let m = seats[slots::SEAT * n + slots::MADE];
+    if fits(l, 40, m, 17) {
+        return run_small(
             numbers,
-            nodes,
-            n,
+            &seats,
+            &takers,
+            l,
+            m,
             count,
             kind_places,
             logger_places,
             ticks,
             globals,
-            &left_slot,
-            &right_slot,
-            &takers,
-            &left_at,
-            &right_at,
-            &made_at,
-            &mut lefts,
-            &mut rights,
-            &mut made,
             output,
         );
     }
-    if fits(l, 48, r, 32, m, 24) {
-        let mut lefts = [[0u64; 3]; 48];
-        let mut rights = [[0u64; 3]; 32];
-        let mut made = [[0u64; 3]; 24];
-        return detector::run_in(
-            numbers,
-            nodes,
-            n,
-            count,
-            kind_places,
-            logger_places,
-            ticks,
-            globals,
-            &left_slot,
-            &right_slot,
-            &takers,
-            &left_at,
-            &right_at,
-            &made_at,
-            &mut lefts,
-            &mut rights,
-            &mut made,
-            output,
-        );
-    }
-    if fits(l, 112, r, 40, m, 40) {
-        let mut lefts = [[0u64; 3]; 112];
-        let mut rights = [[0u64; 3]; 40];
-        let mut made = [[0u64; 3]; 40];
-        return detector::run_in(
-            numbers,
-            nodes,
-            n,
-            count,
-            kind_places,
-            logger_places,
-            ticks,
-            globals,
-            &left_slot,
-            &right_slot,
-            &takers,
-            &left_at,
-            &right_at,
-            &made_at,
-            &mut lefts,
-            &mut rights,
-            &mut made,
-            output,
-        );
-    }
-    if fits(l, 192, r, 104, m, 40) {
-        let mut lefts = [[0u64; 3]; 192];
-        let mut rights = [[0u64; 3]; 104];
-        let mut made = [[0u64; 3]; 40];
-        return detector::run_in(
-            numbers,
-            nodes,
-            n,
-            count,
-            kind_places,
-            logger_places,
-            ticks,
-            globals,
-            &left_slot,
-            &right_slot,
-            &takers,
-            &left_at,
-            &right_at,
-            &made_at,
-            &mut lefts,
-            &mut rights,
-            &mut made,
-            output,
-        );
-    }
-    let mut lefts = [[0u64; 3]; 272];
-    let mut rights = [[0u64; 3]; 272];
-    let mut made = [[0u64; 3]; 136];
-    detector::run_in(
+    run_large(
         numbers,
-        nodes,
-        n,
+        &seats,
+        &takers,
+        l,
+        m,
         count,
         kind_places,
         logger_places,
         ticks,
         globals,
-        &left_slot,
-        &right_slot,
-        &takers,
-        &left_at,
-        &right_at,
-        &made_at,
-        &mut lefts,
-        &mut rights,
-        &mut made,
         output,
     )
 }

@@ -1,8 +1,8 @@
 -- Demand 3 over the run: after every event all that waits, was made or was written is exact.
-use mathlib.Core.Bool.{Bool, true, false}
-use mathlib.Core.List.{List, [], _∷_, _++_, map, Memᴰ·cast, List·Memᴰ·head, List·Memᴰ·tail, List·Memᴰ·cases-cons, List·Memᴰ·not-nil, List·Memᴰ·append-cases, List·Memᴰ·eq-of-singleton}
+use mathlib.Core.Bool.{true, false}
+use mathlib.Core.List.{List, [], _∷_, map, List·Memᴰ·head, List·Memᴰ·tail, List·Memᴰ·cases-cons, List·Memᴰ·not-nil, List·Memᴰ·append-cases, List·Memᴰ·eq-of-singleton}
 use mathlib.Core.Logic.{_⊎_, inl, inr, ⊎-elim}
-use mathlib.Core.Path.{_≡_, refl, sym, ap, subst, _∙_}
+use mathlib.Core.Path.{_≡_, refl, sym, ap, subst}
 use Prim.Native.Nat.{ℕ, zero, suc, _+_, _-_, _<_, _≤_}
 use native.Mathlib.Omega.{arith}
 use lib.ListN.{getD, length, replicate, set, take, length-map, length-take}
@@ -12,8 +12,8 @@ use Rattle.sequences.specs.Choice.{pick}
 use Rattle.sequences.specs.Loops.{fold, loop}
 use Rattle.sequences.specs.Members.{_isIn_}
 use Rattle.sequences.proofs.Booleans.{either-way, never-both}
+use Rattle.sequences.proofs.Members.{map-of}
 use Rattle.sequences.proofs.Parts.{getD-map}
-use Rattle.timestamps.specs.declared.Timestamp.{Timestamp}
 use Rattle.timestamps.specs.Order.{blank as blankStamp}
 use Rattle.timestamps.proofs.Join.{Placeable}
 use Rattle.occurrences.specs.declared.Occurrence.{Occurrence}
@@ -23,16 +23,15 @@ use Rattle.occurrences.specs.Occurrences.{ofEvent}
 use Rattle.occurrences.proofs.Latest.{exact-combination, exact-combined, exact-event}
 use Rattle.detections.specs.Findings.{findingsBytes}
 use Rattle.plans.specs.declared.Node.{Node}
-use Rattle.plans.specs.Layout.{Plan, planClocks}
+use Rattle.plans.specs.Layout.{Plan, inputsOf, planClocks}
 use Rattle.plans.specs.Limits.{noNode}
 use Rattle.passages.specs.declared.Event.{Event}
-use Rattle.emissions.specs.declared.Limit.the-variants.{None}
-use Rattle.emissions.specs.Emissions.{numberOf, reached}
-use Rattle.arrivals.specs.Arrivals.{Setting, settingOf}
+use Rattle.emissions.specs.Emissions.{reached}
+use Rattle.arrivals.specs.Meetings.{Setting, settingOf}
 use Rattle.operators.specs.Turns.{Turned}
-use Rattle.progress.specs.Progress.{Progress, arrivalsOf, closed, eventStep, nodeStep, numbersByPlace, runOf, stampOf, start, turnAt, turned}
-use Rattle.latest_stamps.specs.Written.{All, Kept, Shown, Written}
-use Rattle.latest_stamps.proofs.Turns.{TurnOk, all-none, all-one, pick-all, turn-keeps}
+use Rattle.progress.specs.Progress.{NodeLists, Progress, arrivalsOf, closed, eventStep, noLists, nodeStep, numbersByPlace, runOf, stampOf, start, turnAt, turned}
+use Rattle.latest_stamps.specs.Written.{All, Kept}
+use Rattle.latest_stamps.proofs.Turns.{TurnOk, all-none, all-one, getD-all, loop-all, pick-all, turn-keeps}
 
 -- ---- lists of lists
 module _ {A : Type 0} where
@@ -43,19 +42,9 @@ module _ {A : Type 0} where
   set-in (a ∷ l) (suc k) x m =
       ⊎-elim (λ e. inr (List·Memᴰ·head e)) (λ i. ⊎-elim inl (λ j. inr (List·Memᴰ·tail j)) (set-in l k x i)) (List·Memᴰ·cases-cons m)
 
-  getD-all : (Q : A → Type 0) (l : List A) (k : ℕ) (d : A) → ((a : A) → a isIn l → Q a) → Q d → Q (getD l k d)
-  getD-all Q [] k d h q = q
-  getD-all Q (a ∷ l) zero d h q = h a (List·Memᴰ·head refl)
-  getD-all Q (a ∷ l) (suc k) d h q = getD-all Q l k d (λ b m. h b (List·Memᴰ·tail m)) q
-
   replicate-of : (n : ℕ) (x : A) {y : A} → y isIn replicate n x → y ≡ x
   replicate-of zero x m = absurd (List·Memᴰ·not-nil m)
   replicate-of (suc n) x m = ⊎-elim (λ e. e) (λ i. replicate-of n x i) (List·Memᴰ·cases-cons m)
-
-  loop-all : (Q : A → Type 0) (f : ℕ → A → A) (n k : ℕ) (s : A) → Q s → ((j : ℕ) (t : A) → j < k + n → Q t → Q (f j t)) → Q (loop f n k s)
-  unfolding loop
-  loop-all Q f zero k s q h = q
-  loop-all Q f (suc n) k s q h = loop-all Q f n (k + 1) (f k s) (h k s (omega arith) q) (λ j t i r. h j t (omega (arith, i)) r)
 
 -- ---- an event's turn
 module _ (P : Occurrence → Type 0) (s : Setting) (nodes : List Node)
@@ -63,6 +52,9 @@ module _ (P : Occurrence → Type 0) (s : Setting) (nodes : List Node)
     (more : (o : Occurrence) (parts : List Occurrence) → All P (o ∷ parts) → P (combinationOf (s .clocks) (o ∷ parts))) where
   abbrev Fine : ℕ → Progress → Type 0
   Fine i p = Kept P (s .loggers) (length nodes) i p
+
+  abbrev BothOk : NodeLists → Type 0
+  BothOk w = All P (w .left) × All P (w .right)
 
   arrivals-keep : (kind : ℕ) (own : Occurrence) (made : List (List Occurrence)) (input : ℕ) → P own → ((l : List Occurrence) → l isIn made → All P l)
       → All P (arrivalsOf kind own made input)
@@ -76,12 +68,10 @@ module _ (P : Occurrence → Type 0) (s : Setting) (nodes : List Node)
   turned-keeps : (i k : ℕ) (p : Progress) (t : Turned) → Fine i p → p .event ≡ i → TurnOk P s (length nodes) two more t → Fine i (turned k p t)
   unfolding turned
   turned-keeps i k p t q e w = record {
-    lefts = λ l m. ⊎-elim (λ e. subst (All P) (sym e) (w .left)) (q .lefts l) (set-in (p .lefts) k (t .left) m);
-    rights = λ l m. ⊎-elim (λ e. subst (All P) (sym e) (w .right)) (q .rights l) (set-in (p .rights) k (t .right) m);
+    waiting = λ x m. ⊎-elim (λ e. subst BothOk (sym e) (w .left, w .right)) (q .waiting x) (set-in (p .waiting) k _ m);
     made = λ l m. ⊎-elim (q .made l) (λ i. subst (All P) (sym (List·Memᴰ·eq-of-singleton i)) (w .emit .made)) (List·Memᴰ·append-cases (p .made) m);
     written = w .emit .written;
     event = inr e;
-    limit = w .emit .limit;
   }
 
   node-keeps : (kind : ℕ) (own : Occurrence) → P own → (i k : ℕ) (p : Progress) → k < length nodes → Fine i p → Fine i (nodeStep s nodes kind own k p)
@@ -91,6 +81,12 @@ module _ (P : Occurrence → Type 0) (s : Setting) (nodes : List Node)
       next : Progress
       next = turned k p (turnAt s nodes kind own k p)
 
+      node : Node
+      node = getD nodes k noNode
+
+      lists : BothOk (getD (p .waiting) k noLists)
+      lists = getD-all BothOk (p .waiting) k noLists (q .waiting) (all-none P, all-none P)
+
       stays : reached (p .limit) ≡ true → Fine i (pick (reached (p .limit)) p next)
       stays e = rw e q
 
@@ -98,10 +94,9 @@ module _ (P : Occurrence → Type 0) (s : Setting) (nodes : List Node)
       goes e =
           let same : p .event ≡ i = ⊎-elim (λ r. absurd (never-both r e)) (λ x. x) (q .event) in
           rw e (turned-keeps i k p _ q same
-          (turn-keeps P s (length nodes) two more (getD nodes k noNode) k in-plan _ _ _ _ (p .findings) (p .bytes)
-          (getD-all (All P) (p .lefts) k [] (q .lefts) (all-none P)) (getD-all (All P) (p .rights) k [] (q .rights) (all-none P))
-          (arrivals-keep kind own (p .made) (getD nodes k noNode .left) h (q .made)) (arrivals-keep kind own (p .made) (getD nodes k noNode .right) h (q .made))
-          (q .written)))
+          (turn-keeps P s (length nodes) two more node k in-plan (p .event) _ _ _ (p .findings) (p .bytes)
+          (λ l m. let (input, z, f) = map-of (arrivalsOf kind own (p .made)) (inputsOf node) m in subst (All P) (sym f) (arrivals-keep kind own (p .made) input h (q .made)))
+          (lists .0) (lists .1) (q .written)))
 
   -- the event is done
   closed-keeps : (i : ℕ) (p : Progress) → Fine i p → Fine (i + 1) (closed p)
@@ -109,15 +104,15 @@ module _ (P : Occurrence → Type 0) (s : Setting) (nodes : List Node)
   closed-keeps i p q = ⊎-elim stays goes (either-way (reached (p .limit)))
     where
       done : Progress
-      done = record { limit = p .limit; event = p .event + 1; findings = p .findings; bytes = p .bytes; lefts = p .lefts; rights = p .rights; made = [] }
+      done = record { limit = p .limit; event = p .event + 1; findings = p .findings; bytes = p .bytes; waiting = p .waiting; made = [] }
 
       stays : reached (p .limit) ≡ true → Fine (i + 1) (pick (reached (p .limit)) p done)
-      stays e = rw e (record { lefts = q .lefts; rights = q .rights; made = q .made; written = q .written; event = inl e; limit = q .limit })
+      stays e = rw e (record { waiting = q .waiting; made = q .made; written = q .written; event = inl e })
 
       goes : reached (p .limit) ≡ false → Fine (i + 1) (pick (reached (p .limit)) p done)
       goes e =
           let same : p .event ≡ i = ⊎-elim (λ r. absurd (never-both r e)) (λ x. x) (q .event) in
-          rw e (record { lefts = q .lefts; rights = q .rights; made = λ l m. absurd (List·Memᴰ·not-nil m); written = q .written; event = inr (ap (λ x. x + 1) same); limit = q .limit })
+          rw e (record { waiting = q .waiting; made = λ l m. absurd (List·Memᴰ·not-nil m); written = q .written; event = inr (ap (λ x. x + 1) same) })
 
   -- an event whose own occurrence has the property
   event-keeps : (i : ℕ) (p : Progress) (e : Event) → P (ofEvent (stampOf e) i) → Fine i p → Fine (i + 1) (eventStep s nodes (length nodes) p e)
@@ -128,7 +123,7 @@ module _ (P : Occurrence → Type 0) (s : Setting) (nodes : List Node)
       next = closed (loop (nodeStep s nodes (e .kind) (ofEvent (stampOf e) (p .event))) (length nodes) 0 p)
 
       stays : reached (p .limit) ≡ true → Fine (i + 1) (pick (reached (p .limit)) p next)
-      stays r = rw r (record { lefts = q .lefts; rights = q .rights; made = q .made; written = q .written; event = inl r; limit = q .limit })
+      stays r = rw r (record { waiting = q .waiting; made = q .made; written = q .written; event = inl r })
 
       goes : reached (p .limit) ≡ false → Fine (i + 1) (pick (reached (p .limit)) p next)
       goes r =
@@ -148,14 +143,12 @@ module _ (P : Occurrence → Type 0) (s : Setting) (nodes : List Node)
       (event-keeps i p e (subst (λ n. P (ofEvent (stampOf e) n)) (omega arith) (h 0 (omega arith))) q))
 
   start-keeps : Fine 0 start
-  unfolding start findingsBytes numberOf
+  unfolding start findingsBytes
   start-keeps = record {
-    lefts = λ l m. subst (All P) (sym (replicate-of 16 [] m)) (all-none P);
-    rights = λ l m. subst (All P) (sym (replicate-of 16 [] m)) (all-none P);
+    waiting = λ w m. subst BothOk (sym (replicate-of 16 noLists m)) (all-none P, all-none P);
     made = λ l m. absurd (List·Memᴰ·not-nil m);
     written = record { findings = []; many = refl; laid = refl; each = λ f m. absurd (List·Memᴰ·not-nil m) };
     event = inr refl;
-    limit = (None, refl);
   }
 
   run-keeps : (noEvent : Event) (l : List Event) → ((j : ℕ) → j < length l → P (ofEvent (stampOf (getD l j noEvent)) (0 + j)))

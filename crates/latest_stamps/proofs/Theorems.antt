@@ -10,7 +10,6 @@ use Rattle.sequences.proofs.Members.{map-in, map-of}
 use Rattle.sequences.proofs.Parts.{member-at}
 use Rattle.timestamps.specs.declared.Timestamp.{Timestamp}
 use Rattle.timestamps.specs.Composite.{IsComposite, members}
-use Rattle.timestamps.specs.Join.{joinOf}
 use Rattle.timestamps.specs.Order.{Clocks, before, blank as blankStamp}
 use Rattle.timestamps.proofs.Composites.{composite-same, maxima-composite}
 use Rattle.timestamps.proofs.Join.{Placeable, joinOf-same, members-joinOf}
@@ -72,12 +71,10 @@ module _ (P Q : Occurrence → Type 0) (gives : (o : Occurrence) → P o → Q o
   kept-gives loggers n i p k =
       let w = k .written in
       record {
-        lefts = λ l m. all-gives l (k .lefts l m);
-        rights = λ l m. all-gives l (k .rights l m);
+        waiting = λ w m. (all-gives (w .left) (k .waiting w m .0), all-gives (w .right) (k .waiting w m .1));
         made = λ l m. all-gives l (k .made l m);
         written = record { findings = w .findings; many = w .many; laid = w .laid; each = λ f m. shown-gives loggers n f (w .each f m) };
         event = k .event;
-        limit = k .limit;
       }
 
 -- the stamps of an accepted passage have a place each

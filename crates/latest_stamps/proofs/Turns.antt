@@ -1,34 +1,33 @@
 -- A property that combination keeps is kept by what a node makes, writes and lets wait.
 use mathlib.Core.Bool.{Bool, true, false}
-use mathlib.Core.List.{List, [], _∷_, _++_, map, List·Memᴰ·head, List·Memᴰ·tail, List·Memᴰ·cases-cons, List·Memᴰ·not-nil, List·Memᴰ·append-cases, List·Memᴰ·eq-of-singleton}
+use mathlib.Core.List.{List, [], _∷_, _++_, List·Memᴰ·head, List·Memᴰ·tail, List·Memᴰ·cases-cons, List·Memᴰ·not-nil, List·Memᴰ·append-cases, List·Memᴰ·eq-of-singleton}
 use mathlib.Core.Logic.{⊎-elim}
-use mathlib.Core.Path.{_≡_, refl, sym, ap, subst, _∙_}
-use Prim.Native.Nat.{ℕ, _+_, _<_}
+use mathlib.Core.Path.{refl, sym, ap, subst, _∙_}
+use Prim.Native.Nat.{ℕ, zero, suc, _+_, _<_}
 use native.Mathlib.Omega.{arith}
-use lib.ListN.{length, length-append}
+use lib.ListN.{getD, length, length-append}
 use lib.Dec.{eqb, leb, ltb}
 use Rattle.sequences.specs.Choice.{pick}
-use Rattle.sequences.specs.Loops.{fold}
-use Rattle.sequences.specs.Marks.{marked, unmarked}
+use Rattle.sequences.specs.Loops.{fold, loop}
+use Rattle.sequences.specs.Marks.{unmarked}
 use Rattle.sequences.specs.Members.{_isIn_}
 use Rattle.sequences.proofs.Marks.{marked-order, unmarked-order, order-in}
 use Rattle.sequences.proofs.Members.{map-of}
 use Rattle.occurrences.specs.declared.Occurrence.{Occurrence}
 use Rattle.occurrences.specs.Combination.{combinationOf, combinedOf}
-use Rattle.detections.specs.Findings.{Finding, findingsBytes}
 use Rattle.detections.specs.Views.{findingOf}
 use Rattle.detections.proofs.Sizes.{findings-more}
-use Rattle.waiting_lists.specs.Waiting.{isFull}
-use Rattle.contexts.specs.Choice.{andCandidates, chosen, seqCandidates}
+use Rattle.waiting_lists.specs.Waiting.{appendedTo, isFull}
+use Rattle.contexts.specs.Choice.{chosen}
 use Rattle.contexts.specs.Made.{madeOf}
-use Rattle.contexts.specs.Table.{Findings, each, together, rowOf}
+use Rattle.contexts.specs.Table.{Context, Findings, each, together}
 use Rattle.plans.specs.declared.Node.{Node}
 use Rattle.emissions.specs.declared.Limit.{Limit}
-use Rattle.emissions.specs.declared.Limit.the-variants.{None, ListFull, NodeFull, OutputFull}
-use Rattle.emissions.specs.Emissions.{Emitting, bytesOf, emitted, emittedAll, ended, numberOf, reached}
-use Rattle.arrivals.specs.Arrivals.{Met, Setting, Sides, afterwards, andArrived, findingsOf, joinsBy, metBy, restOf, waited}
-use Rattle.operators.specs.Turns.{Turned, arrived, leftSides, nodeTurn, orArrived, rightSides, seqLeft, seqRight}
-use Rattle.latest_stamps.specs.Written.{All, Shown, Written}
+use Rattle.emissions.specs.declared.Limit.the-variants.{ListFull, NodeFull, OutputFull}
+use Rattle.emissions.specs.Emissions.{Emitting, bytesOf, emitted, emittedAll, ended, reached}
+use Rattle.arrivals.specs.Meetings.{Action, Arrival, Meeting, Setting, Sides, appended, carriedOut, findingsOf, madeBy, meetingOf, pass, wait, meet, meetAndWait, nothing}
+use Rattle.operators.specs.Turns.{Turned, arrives, begun, inOrder, inputTurn, meetingAt, nodeTurn, sidesOf, turnedOf}
+use Rattle.latest_stamps.specs.Written.{All, Written}
 
 -- ---- lists and choices
 pub pick-all : {A : Type 0} (Q : A → Type 0) (b : Bool) (x y : A) → Q x → Q y → Q (pick b x y)
@@ -39,6 +38,17 @@ pub fold-all : {S A : Type 0} (Q : S → Type 0) (f : S → A → S) (l : List A
 unfolding fold
 fold-all Q f [] s q h = q
 fold-all Q f (a ∷ l) s q h = fold-all Q f l (f s a) (h s a (List·Memᴰ·head refl) q) (λ t b m. h t b (List·Memᴰ·tail m))
+
+module _ {A : Type 0} where
+  pub getD-all : (Q : A → Type 0) (l : List A) (k : ℕ) (d : A) → ((a : A) → a isIn l → Q a) → Q d → Q (getD l k d)
+  getD-all Q [] k d h q = q
+  getD-all Q (a ∷ l) zero d h q = h a (List·Memᴰ·head refl)
+  getD-all Q (a ∷ l) (suc k) d h q = getD-all Q l k d (λ b m. h b (List·Memᴰ·tail m)) q
+
+  pub loop-all : (Q : A → Type 0) (f : ℕ → A → A) (n k : ℕ) (s : A) → Q s → ((j : ℕ) (t : A) → j < k + n → Q t → Q (f j t)) → Q (loop f n k s)
+  unfolding loop
+  loop-all Q f zero k s q h = q
+  loop-all Q f (suc n) k s q h = loop-all Q f n (k + 1) (f k s) (h k s (omega arith) q) (λ j t i r. h j t (omega (arith, i)) r)
 
 module _ (P : Occurrence → Type 0) where
   pub all-none : All P []
@@ -60,11 +70,6 @@ module _ (P : Occurrence → Type 0) (s : Setting) (n : ℕ)
   pub record Emits (e : Emitting) : Type 0 where
     pub made : All P (e .made)
     pub written : Written P (s .loggers) n (e .findings) (e .bytes)
-    pub limit : (l : Limit) × (e .limit ≡ numberOf l)
-
-  pub record MetOk (m : Met) : Type 0 where
-    pub list : All P (m .list)
-    pub emit : Emits (m .emit)
 
   pub record SidesOk (m : Sides) : Type 0 where
     pub own : All P (m .own)
@@ -76,8 +81,8 @@ module _ (P : Occurrence → Type 0) (s : Setting) (n : ℕ)
     pub right : All P (t .right)
     pub emit : Emits (t .emit)
 
-  ended-keeps : (e : Emitting) (l : Limit) → Emits e → Emits (ended e (numberOf l))
-  ended-keeps e l h = record { made = h .made; written = h .written; limit = (l, refl) }
+  ended-keeps : (e : Emitting) (l : Limit) → Emits e → Emits (ended e l)
+  ended-keeps e l h = record { made = h .made; written = h .written }
 
   -- one more finding at the end of the bytes
   written-more : (place count : ℕ) (bytes : List ℕ) (o : Occurrence) → place < n → P o → Written P (s .loggers) n count bytes
@@ -103,7 +108,6 @@ module _ (P : Occurrence → Type 0) (s : Setting) (n : ℕ)
         (record {
           made = all-append P (e .made) (o ∷ []) (k .made) (all-one P o h);
           written = written-more place (e .findings) (e .bytes) o in-plan h (k .written);
-          limit = (None, refl);
         })))
 
     emittedAll-keeps : (e : Emitting) (l : List Occurrence) → All P l → Emits e → Emits (emittedAll (s .room) (s .loggers) place e l)
@@ -116,66 +120,73 @@ module _ (P : Occurrence → Type 0) (s : Setting) (n : ℕ)
     made-keeps together [] o h k = all-none P
     made-keeps together (w ∷ those) o h k = all-one P _ (more o (w ∷ those) (all-cons P o (w ∷ those) k h))
 
-    met-keeps : (waiting : List Occurrence) (candidates : List Bool) (e : Emitting) (o : Occurrence) → All P waiting → P o → Emits e
-        → MetOk (metBy s node place waiting candidates e o)
-    unfolding metBy findingsOf restOf
-    met-keeps waiting candidates e o h k q = record {
-      list = pick-all (All P) (reached (emittedAll (s .room) (s .loggers) place e (findingsOf s node waiting candidates o) .limit)) waiting (restOf s node waiting candidates) h
-          (λ x m. h x (order-in (unmarked-order waiting (chosen (rowOf (node .context)) (s .clocks) waiting candidates .removed)) m));
-      emit = emittedAll-keeps e _ (made-keeps _ _ o (λ x m. h x (order-in (marked-order waiting (chosen (rowOf (node .context)) (s .clocks) waiting candidates .taken)) m)) k) q;
+    -- what a meeting makes: a line for each action
+    findings-keep : (row : Context) (other : List Occurrence) (candidates : List Bool) (o : Occurrence) → All P other → P o
+        → All P (findingsOf row (s .clocks) other candidates o)
+    unfolding findingsOf
+    findings-keep row other candidates o h k = made-keeps (row .finds) _ o (λ x m. h x (order-in (marked-order other (chosen row (s .clocks) other candidates .taken)) m)) k
+
+    meeting-makes : (action : Action) (row : Context) (other : List Occurrence) (candidates : List Bool) (o : Occurrence) → All P other → P o
+        → All P (madeBy action row (s .clocks) other candidates o)
+    unfolding madeBy
+    meeting-makes pass row other candidates o h k = all-one P o k
+    meeting-makes wait row other candidates o h k = all-none P
+    meeting-makes meet row other candidates o h k = findings-keep row other candidates o h k
+    meeting-makes meetAndWait row other candidates o h k = findings-keep row other candidates o h k
+    meeting-makes nothing row other candidates o h k = all-none P
+
+    -- its working
+    appended-keeps : (own other : List Occurrence) (e : Emitting) (o : Occurrence) → All P own → All P other → P o → Emits e → SidesOk (appended own other e o)
+    unfolding appended appendedTo
+    appended-keeps own other e o h g k q = record {
+      own = pick-all (All P) (isFull own) _ _ h (all-append P own (o ∷ []) h (all-one P o k));
+      other = g;
+      emit = pick-all Emits (isFull own) _ _ (ended-keeps e ListFull q) q;
     }
 
-    waited-keeps : (l : List Occurrence) (e : Emitting) (o : Occurrence) → All P l → P o → Emits e → MetOk (waited l e o)
-    unfolding waited
-    waited-keeps l e o h k q =
-        pick-all MetOk (reached (e .limit)) _ _ (record { list = h; emit = q })
-        (pick-all MetOk (isFull l) _ _ (record { list = h; emit = ended-keeps e ListFull q })
-        (record { list = all-append P l (o ∷ []) h (all-one P o k); emit = q }))
+    carried-keeps : (e : Emitting) (m : Meeting) → All P (m .own) → All P (m .other) → All P (m .made) → P (m .arrival .occurrence) → Emits e
+        → SidesOk (carriedOut s place e m)
+    unfolding carriedOut
+    carried-keeps e m h g k o q =
+        let w = emittedAll-keeps e (m .made) k q in
+        let rest : All P (unmarked (m .other) (m .removed)) = λ x i. g x (order-in (unmarked-order (m .other) (m .removed)) i) in
+        pick-all SidesOk (reached (emittedAll (s .room) (s .loggers) place e (m .made) .limit)) _ _ (record { own = h; other = g; emit = w })
+        (pick-all SidesOk (m .waits) _ _ (appended-keeps (m .own) _ _ (m .arrival .occurrence) h rest o w) (record { own = h; other = rest; emit = w }))
 
-    and-keeps : (own other : List Occurrence) (e : Emitting) (o : Occurrence) → All P own → All P other → P o → Emits e → SidesOk (andArrived s node place own other e o)
-    unfolding andArrived
-    and-keeps own other e o h g k q =
-        let m = met-keeps other (andCandidates other) e o g k q in
-        let w = waited-keeps own (metBy s node place other (andCandidates other) e o .emit) o h k (m .emit) in
-        pick-all SidesOk (joinsBy (node .context) (andCandidates other)) _ _
-        (record { own = w .list; other = m .list; emit = w .emit })
-        (record { own = h; other = m .list; emit = m .emit })
+    -- an arrival
+    sides-keep : (input : ℕ) (t : Turned) → TurnOk t → SidesOk (sidesOf input t)
+    unfolding sidesOf
+    sides-keep input t q =
+        pick-all SidesOk (eqb input 0) _ _ (record { own = q .left; other = q .right; emit = q .emit }) (record { own = q .right; other = q .left; emit = q .emit })
 
-    left-keeps : (t : Turned) (o : Occurrence) → TurnOk t → P o → TurnOk (leftSides (andArrived s node place (t .left) (t .right) (t .emit) o))
-    left-keeps t o q k = let w = and-keeps (t .left) (t .right) (t .emit) o (q .left) (q .right) k (q .emit) in record { left = w .own; right = w .other; emit = w .emit }
+    turned-back : (input : ℕ) (x : Sides) → SidesOk x → TurnOk (turnedOf input x)
+    unfolding turnedOf
+    turned-back input x q =
+        pick-all TurnOk (eqb input 0) _ _ (record { left = q .own; right = q .other; emit = q .emit }) (record { left = q .other; right = q .own; emit = q .emit })
 
-    right-keeps : (t : Turned) (o : Occurrence) → TurnOk t → P o → TurnOk (rightSides (andArrived s node place (t .right) (t .left) (t .emit) o))
-    right-keeps t o q k = let w = and-keeps (t .right) (t .left) (t .emit) o (q .right) (q .left) k (q .emit) in record { left = w .other; right = w .own; emit = w .emit }
-
-    seq-left-keeps : (t : Turned) (o : Occurrence) → TurnOk t → P o → TurnOk (seqLeft t o)
-    unfolding seqLeft
-    seq-left-keeps t o q k = let w = waited-keeps (t .left) (t .emit) o (q .left) k (q .emit) in record { left = w .list; right = q .right; emit = w .emit }
-
-    seq-right-keeps : (t : Turned) (o : Occurrence) → TurnOk t → P o → TurnOk (seqRight s node place t o)
-    unfolding seqRight
-    seq-right-keeps t o q k =
-        let w = met-keeps (t .left) (seqCandidates (s .clocks) (t .left) o) (t .emit) o (q .left) k (q .emit) in
-        record { left = w .list; right = q .right; emit = w .emit }
-
-    or-keeps : (t : Turned) (o : Occurrence) → TurnOk t → P o → TurnOk (orArrived s place t o)
-    unfolding orArrived
-    or-keeps t o q k = record { left = q .left; right = q .right; emit = emitted-keeps (t .emit) o k (q .emit) }
-
-    arrived-keeps : (left : Bool) (t : Turned) (o : Occurrence) → TurnOk t → P o → TurnOk (arrived s node place left t o)
-    unfolding arrived
-    arrived-keeps left t o q k =
+    arrives-keeps : (t : Turned) (a : Arrival) → TurnOk t → P (a .occurrence) → TurnOk (arrives s node place t a)
+    unfolding arrives meetingAt meetingOf
+    arrives-keeps t a q k =
+        let x = sides-keep (a .input) t q in
         pick-all TurnOk (reached (t .emit .limit)) _ _ q
-        (pick-all TurnOk (eqb (node .operator) 1) _ _ (or-keeps t o q k)
-        (pick-all TurnOk (eqb (node .operator) 2) _ _
-        (pick-all TurnOk left _ _ (left-keeps t o q k) (right-keeps t o q k))
-        (pick-all TurnOk left _ _ (seq-left-keeps t o q k) (seq-right-keeps t o q k))))
+        (turned-back (a .input) _ (carried-keeps (t .emit) (meetingAt s node t a) (x .own) (x .other) (meeting-makes _ _ _ _ (a .occurrence) (x .other) k) k (q .emit)))
 
-    pub turn-keeps : (left right la ra : List Occurrence) (findings : ℕ) (bytes : List ℕ) → All P left → All P right → All P la → All P ra
-        → Written P (s .loggers) n findings bytes → TurnOk (nodeTurn s node place left right la ra findings bytes)
+    -- the turn
+    in-order-all : (event input i : ℕ) (l : List Occurrence) → All P l → (a : Arrival) → a isIn inOrder event input i l → P (a .occurrence)
+    unfolding inOrder
+    in-order-all event input i [] h a m = absurd (List·Memᴰ·not-nil m)
+    in-order-all event input i (o ∷ l) h a m = ⊎-elim
+        (λ e. subst (λ x. P (x .occurrence)) (sym e) (h o (List·Memᴰ·head refl)))
+        (in-order-all event input (i + 1) l (λ x j. h x (List·Memᴰ·tail j)) a) (List·Memᴰ·cases-cons m)
+
+    input-keeps : (event input : ℕ) (l : List Occurrence) (t : Turned) → All P l → TurnOk t → TurnOk (inputTurn s node place event input l t)
+    unfolding inputTurn
+    input-keeps event input l t h q = fold-all TurnOk (arrives s node place) _ t q (λ u a m z. arrives-keeps u a z (in-order-all event input 0 l h a m))
+
+    pub turn-keeps : (event : ℕ) (inputs : List (List Occurrence)) (left right : List Occurrence) (findings : ℕ) (bytes : List ℕ)
+        → ((l : List Occurrence) → l isIn inputs → All P l) → All P left → All P right → Written P (s .loggers) n findings bytes
+        → TurnOk (nodeTurn s node place event inputs (begun left right findings bytes))
     unfolding nodeTurn
-    turn-keeps left right la ra findings bytes h g k l w =
-        fold-all TurnOk (arrived s node place false) ra _
-        (fold-all TurnOk (arrived s node place true) la _
-        (record { left = h; right = g; emit = record { made = all-none P; written = w; limit = (None, refl) } })
-        (λ t o m q. arrived-keeps true t o q (k o m)))
-        (λ t o m q. arrived-keeps false t o q (l o m))
+    turn-keeps event inputs left right findings bytes h l r w =
+        loop-all TurnOk _ (length inputs) 0 _ (record { left = l; right = r; emit = record { made = all-none P; written = w } })
+        (λ i t j q. input-keeps event i (getD inputs i []) t (getD-all (All P) inputs i [] h (all-none P)) q)

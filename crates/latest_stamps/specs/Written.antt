@@ -9,9 +9,8 @@ use Rattle.sequences.specs.Members.{_isIn_}
 use Rattle.occurrences.specs.declared.Occurrence.{Occurrence}
 use Rattle.detections.specs.Findings.{Finding, findingsBytes}
 use Rattle.detections.specs.Views.{findingOf}
-use Rattle.emissions.specs.declared.Limit.{Limit}
-use Rattle.emissions.specs.Emissions.{numberOf, reached}
-use Rattle.progress.specs.Progress.{Progress}
+use Rattle.emissions.specs.Emissions.{reached}
+use Rattle.progress.specs.Progress.{NodeLists, Progress}
 
 -- every occurrence of a list has the property
 abbrev pub All : (Occurrence → Type 0) → List Occurrence → Type 0
@@ -34,9 +33,7 @@ pub record Written (P : Occurrence → Type 0) (loggers : List ℕ) (n count : �
 
 -- after i events, or where one of the three limits ended the work
 pub record Kept (P : Occurrence → Type 0) (loggers : List ℕ) (n i : ℕ) (p : Progress) : Type 0 where
-  pub lefts : (l : List Occurrence) → l isIn (p .lefts) → All P l
-  pub rights : (l : List Occurrence) → l isIn (p .rights) → All P l
+  pub waiting : (w : NodeLists) → w isIn (p .waiting) → All P (w .left) × All P (w .right)
   pub made : (l : List Occurrence) → l isIn (p .made) → All P l
   pub written : Written P loggers n (p .findings) (p .bytes)
   pub event : (reached (p .limit) ≡ true) ⊎ (p .event ≡ i)
-  pub limit : (l : Limit) × (p .limit ≡ numberOf l)

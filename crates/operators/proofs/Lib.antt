@@ -1,4 +1,5 @@
-pub mod Dispatch
-pub mod Growth
+pub mod Carried
+pub mod Sides
 pub mod Spares
+pub mod Table
 pub mod Turns

@@ -1,3 +1,3 @@
-pub mod Steps
+pub mod Table
 pub mod Turns
 pub mod Views

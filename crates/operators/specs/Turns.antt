@@ -1,16 +1,17 @@
 -- Document 01, "How an event is worked": a node's turn, arrival by arrival.
-use mathlib.Core.Bool.{Bool, true, false}
-use mathlib.Core.List.{List, []}
-use Prim.Native.Nat.{ℕ}
+use mathlib.Core.List.{List, [], _∷_}
+use Prim.Native.Nat.{ℕ, _+_}
 use lib.Dec.{eqb}
+use lib.ListN.{getD, length}
 use Rattle.sequences.specs.Choice.{pick}
-use Rattle.sequences.specs.Loops.{fold}
+use Rattle.sequences.specs.Loops.{fold, loop}
 use Rattle.occurrences.specs.declared.Occurrence.{Occurrence}
-use Rattle.contexts.specs.Choice.{seqCandidates}
+use Rattle.contexts.specs.Table.{rowOf}
 use Rattle.plans.specs.declared.Node.{Node}
 use Rattle.emissions.specs.declared.Limit.the-variants.{None}
-use Rattle.emissions.specs.Emissions.{Emitting, emitted, numberOf, reached}
-use Rattle.arrivals.specs.Arrivals.{Met, Setting, Sides, andArrived, metBy, waited}
+use Rattle.emissions.specs.Emissions.{Emitting, reached}
+use Rattle.arrivals.specs.Meetings.{Arrival, Meeting, Setting, Sides, carriedOut, meetingOf, sides}
+use Rattle.operators.specs.Table.{actionOf}
 
 -- a node in its turn: what waits on its left and on its right, and what it has made
 pub record Turned : Type 0 where
@@ -18,45 +19,38 @@ pub record Turned : Type 0 where
   pub right : List Occurrence
   pub emit : Emitting
 
--- ---- the operators
+-- ---- the node as an arrival by an input sees it: by the left input, 0, its own side is the left, by any other the right
+unfoldable pub sidesOf : ℕ → Turned → Sides
+sidesOf input t = pick (eqb input 0) (sides (t .left) (t .right) (t .emit)) (sides (t .right) (t .left) (t .emit))
 
--- OR passes each arrival on as a finding
-unfoldable pub orArrived : Setting → ℕ → Turned → Occurrence → Turned
-orArrived s place t o = record { left = t .left; right = t .right; emit = emitted (s .room) (s .loggers) place (t .emit) o }
+unfoldable pub turnedOf : ℕ → Sides → Turned
+turnedOf input x =
+    pick (eqb input 0) (record { left = x .own; right = x .other; emit = x .emit }) (record { left = x .other; right = x .own; emit = x .emit })
 
--- the left list after an arrival
-abbrev pub leftMet : Turned → Met → Turned
-leftMet t m = record { left = m .list; right = t .right; emit = m .emit }
+-- what an arrival meets at a node: by the operator's row and the context's
+unfoldable pub meetingAt : Setting → Node → Turned → Arrival → Meeting
+meetingAt s node t a =
+    let x = sidesOf (a .input) t in
+    meetingOf (actionOf (node .operator) (a .input)) (rowOf (node .context)) (s .clocks) (x .own) (x .other) a
 
--- SEQ: a left arrival is appended to the left waiting list
-unfoldable pub seqLeft : Turned → Occurrence → Turned
-seqLeft t o = leftMet t (waited (t .left) (t .emit) o)
-
--- for a right arrival, the candidates are the left waiting occurrences whose stamp is before its own. It never waits
-unfoldable pub seqRight : Setting → Node → ℕ → Turned → Occurrence → Turned
-seqRight s node place t o = leftMet t (metBy s node place (t .left) (seqCandidates (s .clocks) (t .left) o) (t .emit) o)
-
--- AND: the node as one side sees it, and as the other does
-abbrev pub leftSides : Sides → Turned
-leftSides x = record { left = x .own; right = x .other; emit = x .emit }
-
-abbrev pub rightSides : Sides → Turned
-rightSides x = record { left = x .other; right = x .own; emit = x .emit }
+-- the arrival is worked. After a limit nothing happens
+unfoldable pub arrives : Setting → Node → ℕ → Turned → Arrival → Turned
+arrives s node place t a = pick (reached (t .emit .limit)) t (turnedOf (a .input) (carriedOut s place (t .emit) (meetingAt s node t a)))
 
 -- ---- the turn
 
--- an arrival of the left or the right input, by the operator: 1 OR, 2 AND, 3 SEQ. After a limit nothing happens
-unfoldable pub arrived : Setting → Node → ℕ → Bool → Turned → Occurrence → Turned
-arrived s node place left t o =
-    pick (reached (t .emit .limit)) t
-    (pick (eqb (node .operator) 1) (orArrived s place t o)
-    (pick (eqb (node .operator) 2)
-    (pick left (leftSides (andArrived s node place (t .left) (t .right) (t .emit) o)) (rightSides (andArrived s node place (t .right) (t .left) (t .emit) o)))
-    (pick left (seqLeft t o) (seqRight s node place t o))))
+-- the arrivals of one input in an event, in the order made, from a place on
+unfoldable pub inOrder : (event input place : ℕ) → List Occurrence → List Arrival
+inOrder event input place [] = []
+inOrder event input place (o ∷ l) = record { event = event; input = input; place = place; occurrence = o } ∷ inOrder event input (place + 1) l
 
--- a node first takes the arrivals of its left input, in the order made, then those of its right input
-unfoldable pub nodeTurn : Setting → Node → ℕ → List Occurrence → List Occurrence → List Occurrence → List Occurrence → ℕ → List ℕ → Turned
-nodeTurn s node place left right la ra findings bytes =
-    fold (arrived s node place false) ra
-    (fold (arrived s node place true) la
-    (record { left = left; right = right; emit = record { made = []; findings = findings; bytes = bytes; limit = numberOf None } }))
+unfoldable pub inputTurn : Setting → Node → (place event input : ℕ) → List Occurrence → Turned → Turned
+inputTurn s node place event input l t = fold (arrives s node place) (inOrder event input 0 l) t
+
+-- a node first takes the arrivals of its left input, then those of its right input
+unfoldable pub nodeTurn : Setting → Node → (place event : ℕ) → List (List Occurrence) → Turned → Turned
+nodeTurn s node place event inputs t = loop (λ i. inputTurn s node place event i (getD inputs i [])) (length inputs) 0 t
+
+-- a node at the start of its turn: it has made nothing yet
+abbrev pub begun : (left right : List Occurrence) → ℕ → List ℕ → Turned
+begun left right findings bytes = record { left = left; right = right; emit = record { made = []; findings = findings; bytes = bytes; limit = None } }

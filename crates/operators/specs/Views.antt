@@ -1,59 +1,59 @@
--- What the code's values stand for, beside what is lent: waiting lists, what the node made, the output.
+-- What the code's values stand for, beside what is lent: a node's two waiting lists, what it made, the output.
+use mathlib.Core.Bool.{Bool, true}
 use mathlib.Core.List.{List}
 use mathlib.Core.Path.{_≡_}
-use Prim.Native.Nat.{ℕ}
+use Prim.Native.Nat.{ℕ, _≤_}
+use lib.Dec.{eqb}
+use lib.ListN.{drop, length, take}
+use Rattle.sequences.specs.Choice.{pick}
 use Rattle.occurrences.specs.declared.Occurrence.{Occurrence}
-use Rattle.occurrences.specs.Packed.{Notes, Stand}
+use Rattle.occurrences.specs.Packed.{Notes, Stand, Stands}
 use Rattle.waiting_lists.specs.Lists.{Waits}
 use Rattle.plans.specs.declared.Node.{Node}
-use Rattle.emissions.specs.declared.Emit.{Emit}
-use Rattle.emissions.specs.Emissions.{Emits, Emitting}
+use Rattle.emissions.specs.declared.Limit.{Limit}
+use Rattle.emissions.specs.declared.Limit.the-variants.{None}
+use Rattle.emissions.specs.Emissions.{Emits}
+use Rattle.arrivals.specs.Meetings.{actionFrom, mayWait}
 use Rattle.arrivals.specs.Views.{Spare}
+use Rattle.operators.specs.Table.{actionOf}
 use Rattle.operators.specs.Turns.{Turned}
+use Rattle.operators.specs.declared.Part.{Part}
+use Rattle.operators.specs.declared.Turn.{Turn}
 
--- a node after its turn
-pub record HoldsTurned {ticks globals : List ℕ} (t : Notes ticks globals) (r : Emit) (lefts rights made : List (List ℕ)) (out : List ℕ) (x : Turned) : Type 0 where
-  pub left : Waits t lefts (x .left)
-  pub right : Waits t rights (x .right)
-  pub emit : Emits t r made out (x .emit)
+-- a node's two lists in one: the left one up to the middle, the right one from there on
+pub record HoldsTurned {ticks globals : List ℕ} (t : Notes ticks globals) (met : Limit) (middle : ℕ) (lists : List (List ℕ)) (tally : List ℕ) (made : List (List ℕ))
+    (out : List ℕ) (x : Turned) : Type 0 where
+  pub inside : middle ≤ length lists
+  pub left : Waits t (take middle lists) (x .left)
+  pub right : Waits t (drop middle lists) (x .right)
+  pub emit : Emits t met tally made out (x .emit)
 
--- the lists that the operator appends to have places for all that arrive: both of AND, 2, the left one of SEQ, 3, and none of OR, 1
-abbrev pub Spares : Node → (left : List (List ℕ)) (na : ℕ) (right : List (List ℕ)) (nb : ℕ) → Type 0
-Spares node left na right nb = ((node .operator ≡ 1 → ⊥) → Spare left na) × (node .operator ≡ 2 → Spare right nb)
+-- one of them, as a part
+pub record Half (left : Bool) (middle end : ℕ) (p : Part) : Type 0 where
+  pub from : p .from ≡ pick left 0 middle
+  pub to : p .to ≡ pick left middle end
+  pub up : p .from ≤ p .to
+  pub within : p .to ≤ end
 
--- ---- that there are such notes and occurrences: of arrivals at a node without lists, with one and with two
-abbrev pub Passing : (ticks : List ℕ) (arrivals : List (List ℕ)) (e : Emit) (made : List (List ℕ)) (out : List ℕ) → Type 0
-Passing ticks arrivals e made out =
-    (globals : List ℕ) × (t : Notes ticks globals) × (k : List Occurrence) × (s : Emitting) × Stand t arrivals k × Emits t e made out s
+-- the list on the arrival's own side, and the other one
+abbrev pub ownPart : {A : Type 0} → (input middle : ℕ) → List A → List A
+ownPart input middle lists = pick (eqb input 0) (take middle lists) (drop middle lists)
 
-abbrev pub Listed : (ticks globals : List ℕ) (list arrivals : List (List ℕ)) (e : Emit) (made : List (List ℕ)) (out : List ℕ) → Type 0
-Listed ticks globals list arrivals e made out =
-    (t : Notes ticks globals) × (l : List Occurrence) × (k : List Occurrence) × (s : Emitting)
-    × Waits t list l × Stand t arrivals k × Emits t e made out s
+-- the turn is of this node: what the operator's row says of the input, and the context
+pub record Takes (node : Node) (turn : Turn) : Type 0 where
+  pub action : actionFrom (turn .action) ≡ actionOf (node .operator) (turn .input)
+  pub context : turn .context ≡ node .context
 
-abbrev pub Sided : (ticks globals : List ℕ) (own other arrivals : List (List ℕ)) (e : Emit) (made : List (List ℕ)) (out : List ℕ) → Type 0
-Sided ticks globals own other arrivals e made out =
-    (t : Notes ticks globals) × (l : List Occurrence) × (m : List Occurrence) × (k : List Occurrence) × (s : Emitting)
-    × Waits t own l × Waits t other m × Stand t arrivals k × Emits t e made out s
+-- its own list has places for n that arrive, where they may come to wait
+abbrev pub Spares : Turn → (lists : List (List ℕ)) → ℕ → Type 0
+Spares turn lists n = mayWait (actionFrom (turn .action)) ≡ true → Spare (ownPart (turn .input) (turn .middle) lists) n
 
--- of the arrivals of both inputs, likewise
-abbrev pub PassingTwo : (ticks : List ℕ) (la ra : List (List ℕ)) (e : Emit) (made : List (List ℕ)) (out : List ℕ) → Type 0
-PassingTwo ticks la ra e made out =
-    (globals : List ℕ) × (t : Notes ticks globals) × (a : List Occurrence) × (b : List Occurrence) × (s : Emitting)
-    × Stand t la a × Stand t ra b × Emits t e made out s
+-- ---- that there are such notes and occurrences: of one arrival, and of those of an input of a node, where no limit is met yet
+abbrev pub Offered : (turn : Turn) (ticks globals : List ℕ) (lists : List (List ℕ)) (tally : List ℕ) (made : List (List ℕ)) (out o : List ℕ) → Type 0
+Offered turn ticks globals lists tally made out o =
+    (t : Notes ticks globals) × (x : Turned) × (y : Occurrence) × HoldsTurned t None (turn .middle) lists tally made out x × Stands t o y
 
-abbrev pub ListedTwo : (ticks globals : List ℕ) (list la ra : List (List ℕ)) (e : Emit) (made : List (List ℕ)) (out : List ℕ) → Type 0
-ListedTwo ticks globals list la ra e made out =
-    (t : Notes ticks globals) × (l : List Occurrence) × (a : List Occurrence) × (b : List Occurrence) × (s : Emitting)
-    × Waits t list l × Stand t la a × Stand t ra b × Emits t e made out s
-
-abbrev pub SidedTwo : (ticks globals : List ℕ) (left right la ra : List (List ℕ)) (e : Emit) (made : List (List ℕ)) (out : List ℕ) → Type 0
-SidedTwo ticks globals left right la ra e made out =
-    (t : Notes ticks globals) × (x : List Occurrence) × (y : List Occurrence) × (a : List Occurrence) × (b : List Occurrence) × (s : Emitting)
-    × Waits t left x × Waits t right y × Stand t la a × Stand t ra b × Emits t e made out s
-
--- of a node's lists and the arrivals of both its inputs, before anything is made
-abbrev pub Offered : (ticks globals : List ℕ) (left right la ra : List (List ℕ)) → Type 0
-Offered ticks globals left right la ra =
-    (t : Notes ticks globals) × (x : List Occurrence) × (y : List Occurrence) × (a : List Occurrence) × (b : List Occurrence)
-    × Waits t left x × Waits t right y × Stand t la a × Stand t ra b
+abbrev pub AllOffered : (turn : Turn) (ticks globals : List ℕ) (lists : List (List ℕ)) (tally : List ℕ) (made : List (List ℕ)) (out : List ℕ) (arrivals : List (List ℕ)) → Type 0
+AllOffered turn ticks globals lists tally made out arrivals =
+    (t : Notes ticks globals) × (node : Node) × (x : Turned) × (l : List Occurrence)
+    × Takes node turn × HoldsTurned t None (turn .middle) lists tally made out x × Stand t arrivals l

@@ -1,344 +1,195 @@
-// A node's turn: OR, AND and SEQ, all arrivals of its inputs, until a limit ends the work. Waiting lists, and a row for what the node makes, are lent.
+// The table of operators, and what it makes of the arrivals of an input at a node, until a limit ends the work. The node's waiting lists, a row for what it
+// makes and a tally are lent.
+use arrivals::Action;
 use detections::LoggerNumbers;
-use emissions::Emit;
 use emissions::Limit;
 use emissions::Made;
+use emissions::Tally;
 use occurrences::Packed;
-use plans::Node;
 ghost use mathlib.Core.List.{List};
 ghost use mathlib.Core.Path.{_≡_};
-ghost use Prim.Native.Nat.{ℕ, min, _+_, _≤_, _<_};
-ghost use lib.Dec.{ltb};
-ghost use lib.ListN.{length, take};
-ghost use Rattle.sequences.specs.Loops.{fold};
+ghost use Prim.Native.Nat.{ℕ, _≤_, _<_};
+ghost use lib.ListN.{getD, length};
 ghost use Rattle.detections.specs.Writing.{Beyond};
 ghost use Rattle.occurrences.specs.declared.Occurrence.{Occurrence};
-ghost use Rattle.occurrences.specs.Packed.{Notes, Stand};
-ghost use Rattle.emissions.specs.Emissions.{Emits, Emitting, emittedAll};
-ghost use Rattle.waiting_lists.specs.Lists.{Waits, listOf};
-ghost use Rattle.waiting_lists.specs.Waiting.{appendedTo};
-ghost use Rattle.arrivals.specs.Arrivals.{settingOf};
-ghost use Rattle.arrivals.specs.Views.{HoldsMet, HoldsSides, InOutput, Spare};
-ghost use Rattle.operators.specs.Steps.{andTurn, begun, meeting, metStep, orTurn, seqTurn, sides, sidesStep};
-ghost use Rattle.operators.specs.Turns.{nodeTurn};
-ghost use Rattle.operators.specs.Views.{HoldsTurned, Listed, ListedTwo, Offered, Passing, PassingTwo, Sided, SidedTwo, Spares};
+ghost use Rattle.occurrences.specs.Packed.{Notes, Stand, Stands};
+ghost use Rattle.plans.specs.declared.Node.{Node};
+ghost use Rattle.emissions.specs.Emissions.{InOutput, findingsIn, placeIn};
+ghost use Rattle.arrivals.specs.Meetings.{Arrival, actionFrom, settingOf};
+ghost use Rattle.operators.specs.Table.{actionOf, operatorOf, seq, table};
+ghost use Rattle.operators.specs.Turns.{Turned, arrives, inputTurn};
+ghost use Rattle.operators.specs.Views.{AllOffered, Half, HoldsTurned, Offered, Spares, Takes};
 
-// ---- all arrivals of one input, in the order made
+// ---- the table
 
-// OR passes each on as a finding.
-fn or_all(
-    e: Emit,
-    made: &mut Made,
-    arrivals: &[Packed],
-    place: u64,
-    ticks: &[u64],
-    loggers: &LoggerNumbers,
-    out: &mut [u8],
-) -> Emit
-    requires { ⌜ Passing (now ticks) (now arrivals) e (now made) (now out) × InOutput e (now out) ⌝ }
-    ensures emits { λ r. ⌜ ((globals : List ℕ) (t : Notes (now (ticks .entry)) globals) (k : List Occurrence) (s : Emitting)
-        → Stand t (now (arrivals .entry)) k → Emits t e (now (made .entry)) (now (out .entry)) s
-        → Emits t r (now (made .exit)) (now (out .exit)) (emittedAll (length (now (out .entry))) (now (loggers .entry)) place s k)) ⌝ }
-    ensures beyond { λ r. ⌜ Beyond (now (out .entry)) (now (out .exit)) (e .at) (r .findings) (r .at) ⌝ }
+// What an arrival by each input does, left first: operators 1 to 3.
+const OPERATORS: [[u16; 2]; 3] = [
+    // OR
+    [Action::PASS, Action::PASS],
+    // AND
+    [Action::MEET_AND_WAIT, Action::MEET_AND_WAIT],
+    // SEQ
+    [Action::WAIT, Action::MEET],
+];
+
+// The place of an operator's row; any other number is read as SEQ.
+fn place_of(operator: u16) -> usize
+    ensures { λ k. ⌜ (k < 3) × (getD table k seq ≡ operatorOf operator) ⌝ }
 {
-    let n = arrivals.len();
-    let mut f = e;
-    let mut i: usize = 0;
-    while i < n {
-        f = emissions::emit_one(f, made, place, &arrivals[i], ticks, loggers, out);
-        i = i + 1;
-    }
-    f
-}
-
-// Each waits; a full list stays as it is.
-fn wait_all(list: &mut [Packed], arrivals: &[Packed])
-    requires { ⌜ 0 < length (now list) ⌝ }
-    ensures { λ _. ⌜ ((ticks globals : List ℕ) (t : Notes ticks globals) (l k : List Occurrence)
-        → Waits t (now (list .entry)) l → Stand t (now (arrivals .entry)) k → Spare (now (list .entry)) (length (now (arrivals .entry)))
-        → Waits t (now (list .exit)) (fold appendedTo k l)) ⌝ }
-{
-    let n = arrivals.len();
-    let mut i: usize = 0;
-    while i < n {
-        waiting_lists::append_to(list, &arrivals[i]);
-        i = i + 1;
+    if operator == 1 {
+        0
+    } else if operator == 2 {
+        1
+    } else {
+        2
     }
 }
 
-// Whether they are too many to wait all.
-fn overflows(list: &[Packed], arrivals: &[Packed]) -> bool
-    requires { ⌜ 0 < length (now list) ⌝ }
-    ensures { λ r. ⌜ r ≡ ltb 16 (min (listOf (now (list .entry)) .len) 16 + length (now (arrivals .entry))) ⌝ }
+// What an arrival by an input does.
+pub fn action_of(operator: u16, input: usize) -> u16
+    requires { ⌜ input < 2 ⌝ }
+    ensures { λ r. ⌜ actionFrom r ≡ actionOf operator input ⌝ }
 {
-    let waiting = waiting_lists::list_of(list);
-    let n = waiting_lists::count(waiting.len);
-    16 - n < arrivals.len()
+    let k = place_of(operator);
+    let row = OPERATORS[k];
+    row[input]
 }
 
-// On the right of a SEQ node.
-fn meet_all(
-    list: &mut [Packed],
-    e: Emit,
-    made: &mut Made,
-    arrivals: &[Packed],
-    node: Node,
-    place: u64,
-    ticks: &[u64],
-    globals: &[u64],
-    loggers: &LoggerNumbers,
-    out: &mut [u8],
-) -> Emit
-    requires { ⌜ Listed (now ticks) (now globals) (now list) (now arrivals) e (now made) (now out) × InOutput e (now out) ⌝ }
-    ensures meets { λ r. ⌜ ((t : Notes (now (ticks .entry)) (now (globals .entry))) (l k : List Occurrence) (s : Emitting)
-        → Waits t (now (list .entry)) l → Stand t (now (arrivals .entry)) k → Emits t e (now (made .entry)) (now (out .entry)) s
-        → HoldsMet t r (now (list .exit)) (now (made .exit)) (now (out .exit))
-        (fold (metStep (settingOf (length (now (out .entry))) (t .clocks) (now (loggers .entry))) node place) k (meeting l s))) ⌝ }
-    ensures beyond { λ r. ⌜ Beyond (now (out .entry)) (now (out .exit)) (e .at) (r .findings) (r .at) ⌝ }
+// ---- arrivals
+
+// The turn of an input at a node: the node's place and context; what its arrivals do; which input it is; and where, in the node's lists, the right one begins.
+pub struct Turn {
+    pub place: u64,
+    pub context: u64,
+    pub action: u16,
+    pub input: usize,
+    pub middle: usize,
+}
+
+// A part of the node's lists.
+pub struct Part {
+    pub from: usize,
+    pub to: usize,
+}
+
+// The left list, or the right one.
+fn part_of(left: bool, middle: usize, end: usize) -> Part
+    requires { ⌜ middle ≤ end ⌝ }
+    ensures { λ r. ⌜ Half left middle end r ⌝ }
 {
-    let n = arrivals.len();
-    let mut f = e;
-    let mut i: usize = 0;
-    while i < n {
-        let candidates = contexts::before_arrival(list, &arrivals[i], ticks, globals);
-        f = arrivals::meet(
-            list,
-            candidates,
-            f,
-            made,
-            &arrivals[i],
-            node,
-            place,
-            ticks,
-            globals,
-            loggers,
-            out,
-        );
-        i = i + 1;
+    if left {
+        Part {
+            from: 0,
+            to: middle,
+        }
+    } else {
+        Part {
+            from: middle,
+            to: end,
+        }
     }
-    f
 }
 
-// On one side of an AND node.
-fn and_all(
-    own: &mut [Packed],
-    other: &mut [Packed],
-    e: Emit,
+// One arrival, where no limit is met yet.
+fn act(
+    turn: Turn,
+    lists: &mut [Packed],
+    tally: &mut Tally,
     made: &mut Made,
-    arrivals: &[Packed],
-    node: Node,
-    place: u64,
+    o: &Packed,
     ticks: &[u64],
     globals: &[u64],
     loggers: &LoggerNumbers,
     out: &mut [u8],
-) -> Emit
-    requires { ⌜ Sided (now ticks) (now globals) (now own) (now other) (now arrivals) e (now made) (now out) × InOutput e (now out)
-        × Spare (now own) (length (now arrivals)) ⌝ }
-    ensures faces { λ r. ⌜ ((t : Notes (now (ticks .entry)) (now (globals .entry))) (l m k : List Occurrence) (s : Emitting)
-        → Waits t (now (own .entry)) l → Waits t (now (other .entry)) m
-        → Stand t (now (arrivals .entry)) k → Emits t e (now (made .entry)) (now (out .entry)) s
-        → HoldsSides t r (now (own .exit)) (now (other .exit)) (now (made .exit)) (now (out .exit))
-        (fold (sidesStep (settingOf (length (now (out .entry))) (t .clocks) (now (loggers .entry))) node place) k (sides l m s))) ⌝ }
-    ensures beyond { λ r. ⌜ Beyond (now (out .entry)) (now (out .exit)) (e .at) (r .findings) (r .at) ⌝ }
+) -> Limit
+    requires { ⌜ Offered turn (now ticks) (now globals) (now lists) (now tally) (now made) (now out) (now o) × InOutput (now tally) (now out)
+        × Spares turn (now lists) 1 ⌝ }
+    ensures acts { λ r. ⌜ ((t : Notes (now (ticks .entry)) (now (globals .entry))) (node : Node) (x : Turned) (a : Arrival)
+        → Takes node turn → a .input ≡ turn .input → Stands t (now (o .entry)) (a .occurrence)
+        → HoldsTurned t Limit.None (turn .middle) (now (lists .entry)) (now (tally .entry)) (now (made .entry)) (now (out .entry)) x
+        → HoldsTurned t r (turn .middle) (now (lists .exit)) (now (tally .exit)) (now (made .exit)) (now (out .exit))
+        (arrives (settingOf (length (now (out .entry))) (t .clocks) (now (loggers .entry))) node (turn .place) x a)) ⌝ }
+    ensures beyond { λ _. ⌜ Beyond (now (out .entry)) (now (out .exit)) (placeIn (now (tally .entry)))
+        (findingsIn (now (tally .exit))) (placeIn (now (tally .exit))) ⌝ }
 {
-    let n = arrivals.len();
-    let mut f = e;
-    let mut i: usize = 0;
-    while i < n {
-        f = arrivals::and_arrival(
-            own,
-            other,
-            f,
-            made,
-            &arrivals[i],
-            node,
-            place,
-            ticks,
-            globals,
-            loggers,
-            out,
-        );
-        i = i + 1;
+    let action = turn.action;
+    if action == Action::PASS {
+        return emissions::emit_one(tally, made, turn.place, o, ticks, loggers, out);
     }
-    f
-}
-
-// ---- the turn
-
-// Nothing made yet.
-fn nothing_made(findings: u64, at: usize) -> Emit
-    ensures { λ r. ⌜ ((ticks globals : List ℕ) (t : Notes ticks globals) (made : List (List ℕ)) (out : List ℕ)
-        → Emits t r made out (begun findings (take at out))) × (r .at ≡ at) × (r .findings ≡ findings) ⌝ }
-{
-    Emit {
-        limit: Limit::None.number(),
-        made: 0,
-        findings: findings,
-        at: at,
+    let end = lists.len();
+    let is_left = turn.input == 0;
+    let own = part_of(is_left, turn.middle, end);
+    let own_from = own.from;
+    let own_to = own.to;
+    if action == Action::WAIT {
+        return arrivals::wait(&mut lists[own_from..own_to], o);
     }
-}
-
-// An OR node's turn: it has no waiting list.
-fn or_turn(
-    place: u64,
-    la: &[Packed],
-    ra: &[Packed],
-    e: Emit,
-    made: &mut Made,
-    ticks: &[u64],
-    loggers: &LoggerNumbers,
-    out: &mut [u8],
-) -> Emit
-    requires { ⌜ PassingTwo (now ticks) (now la) (now ra) e (now made) (now out) × InOutput e (now out) ⌝ }
-    ensures emits { λ r. ⌜ ((globals : List ℕ) (t : Notes (now (ticks .entry)) globals) (a b : List Occurrence) (s : Emitting)
-        → Stand t (now (la .entry)) a → Stand t (now (ra .entry)) b → Emits t e (now (made .entry)) (now (out .entry)) s
-        → Emits t r (now (made .exit)) (now (out .exit)) (orTurn (length (now (out .entry))) (now (loggers .entry)) place a b s)) ⌝ }
-    ensures beyond { λ r. ⌜ Beyond (now (out .entry)) (now (out .exit)) (e .at) (r .findings) (r .at) ⌝ }
-{
-    let f = or_all(e, made, la, place, ticks, loggers, out);
-    or_all(f, made, ra, place, ticks, loggers, out)
-}
-
-// A SEQ node's turn: those on the left wait, those on the right meet them. It has no right list.
-fn seq_turn(
-    node: Node,
-    place: u64,
-    left: &mut [Packed],
-    la: &[Packed],
-    ra: &[Packed],
-    e: Emit,
-    made: &mut Made,
-    ticks: &[u64],
-    globals: &[u64],
-    loggers: &LoggerNumbers,
-    out: &mut [u8],
-) -> Emit
-    requires { ⌜ ListedTwo (now ticks) (now globals) (now left) (now la) (now ra) e (now made) (now out) × InOutput e (now out) × (e .limit ≡ 0)
-        × Spare (now left) (length (now la)) ⌝ }
-    ensures meets { λ r. ⌜ ((t : Notes (now (ticks .entry)) (now (globals .entry))) (l a b : List Occurrence) (s : Emitting)
-        → Waits t (now (left .entry)) l → Stand t (now (la .entry)) a → Stand t (now (ra .entry)) b
-        → Emits t e (now (made .entry)) (now (out .entry)) s
-        → HoldsMet t r (now (left .exit)) (now (made .exit)) (now (out .exit))
-        (seqTurn (settingOf (length (now (out .entry))) (t .clocks) (now (loggers .entry))) node place l a b s)) ⌝ }
-    ensures beyond { λ r. ⌜ Beyond (now (out .entry)) (now (out .exit)) (e .at) (r .findings) (r .at) ⌝ }
-{
-    let over = overflows(left, la);
-    wait_all(left, la);
-    if over {
-        return arrivals::full(e);
-    }
-    meet_all(left, e, made, ra, node, place, ticks, globals, loggers, out)
-}
-
-// An AND node's turn: those on the left, then those on the right.
-fn and_turn(
-    node: Node,
-    place: u64,
-    left: &mut [Packed],
-    right: &mut [Packed],
-    la: &[Packed],
-    ra: &[Packed],
-    e: Emit,
-    made: &mut Made,
-    ticks: &[u64],
-    globals: &[u64],
-    loggers: &LoggerNumbers,
-    out: &mut [u8],
-) -> Emit
-    requires { ⌜ SidedTwo (now ticks) (now globals) (now left) (now right) (now la) (now ra) e (now made) (now out)
-        × InOutput e (now out) × Spare (now left) (length (now la)) × Spare (now right) (length (now ra)) ⌝ }
-    ensures turns { λ r. ⌜ ((t : Notes (now (ticks .entry)) (now (globals .entry))) (x y a b : List Occurrence) (s : Emitting)
-        → Waits t (now (left .entry)) x → Waits t (now (right .entry)) y
-        → Stand t (now (la .entry)) a → Stand t (now (ra .entry)) b → Emits t e (now (made .entry)) (now (out .entry)) s
-        → HoldsTurned t r (now (left .exit)) (now (right .exit)) (now (made .exit)) (now (out .exit))
-        (andTurn (settingOf (length (now (out .entry))) (t .clocks) (now (loggers .entry))) node place x y a b s)) ⌝ }
-    ensures beyond { λ r. ⌜ Beyond (now (out .entry)) (now (out .exit)) (e .at) (r .findings) (r .at) ⌝ }
-{
-    let f = and_all(
-        left,
-        right,
-        e,
+    let other = part_of(!is_left, turn.middle, end);
+    let from = other.from;
+    let to = other.to;
+    let candidates = arrivals::candidates_of(action, &lists[from..to], o, ticks, globals);
+    let limit = arrivals::meet(
+        &mut lists[from..to],
+        candidates,
+        tally,
         made,
-        la,
-        node,
-        place,
+        o,
+        turn.context,
+        turn.place,
         ticks,
         globals,
         loggers,
         out,
     );
-    and_all(
-        right,
-        left,
-        f,
-        made,
-        ra,
-        node,
-        place,
-        ticks,
-        globals,
-        loggers,
-        out,
-    )
+    if limit.is_reached() {
+        return limit;
+    }
+    if !arrivals::waits(action, turn.context, candidates) {
+        return Limit::None;
+    }
+    arrivals::wait(&mut lists[own_from..own_to], o)
 }
 
-// A node's turn: the arrivals of its left input in the order made, then those of its right input.
-pub fn node_turn(
-    node: Node,
-    place: u64,
-    left: &mut [Packed],
-    right: &mut [Packed],
-    la: &[Packed],
-    ra: &[Packed],
+// The arrivals of one input, in the order made.
+pub fn input_turn(
+    turn: Turn,
+    lists: &mut [Packed],
+    tally: &mut Tally,
     made: &mut Made,
-    findings: u64,
+    arrivals: &[Packed],
     ticks: &[u64],
     globals: &[u64],
     loggers: &LoggerNumbers,
-    at: usize,
     out: &mut [u8],
-) -> Emit
-    requires { ⌜ Offered (now ticks) (now globals) (now left) (now right) (now la) (now ra)
-        × (at ≤ length (now out)) × (findings ≤ at) × Spares node (now left) (length (now la)) (now right) (length (now ra)) ⌝ }
-    ensures turns { λ r. ⌜ ((t : Notes (now (ticks .entry)) (now (globals .entry))) (x y k m : List Occurrence)
-        → Waits t (now (left .entry)) x → Waits t (now (right .entry)) y
-        → Stand t (now (la .entry)) k → Stand t (now (ra .entry)) m
-        → HoldsTurned t r (now (left .exit)) (now (right .exit)) (now (made .exit)) (now (out .exit))
-        (nodeTurn (settingOf (length (now (out .entry))) (t .clocks) (now (loggers .entry))) node place x y k m findings (take at (now (out .entry))))) ⌝ }
-    ensures beyond { λ r. ⌜ Beyond (now (out .entry)) (now (out .exit)) at (r .findings) (r .at) ⌝ }
+) -> Limit
+    requires { ⌜ AllOffered turn (now ticks) (now globals) (now lists) (now tally) (now made) (now out) (now arrivals) × InOutput (now tally) (now out)
+        × Spares turn (now lists) (length (now arrivals)) ⌝ }
+    ensures turns { λ r. ⌜ ((t : Notes (now (ticks .entry)) (now (globals .entry))) (node : Node) (x : Turned) (l : List Occurrence) (event : ℕ)
+        → Takes node turn → Stand t (now (arrivals .entry)) l
+        → HoldsTurned t Limit.None (turn .middle) (now (lists .entry)) (now (tally .entry)) (now (made .entry)) (now (out .entry)) x
+        → HoldsTurned t r (turn .middle) (now (lists .exit)) (now (tally .exit)) (now (made .exit)) (now (out .exit))
+        (inputTurn (settingOf (length (now (out .entry))) (t .clocks) (now (loggers .entry))) node (turn .place) event (turn .input) l x)) ⌝ }
+    ensures beyond { λ _. ⌜ Beyond (now (out .entry)) (now (out .exit)) (placeIn (now (tally .entry)))
+        (findingsIn (now (tally .exit))) (placeIn (now (tally .exit))) ⌝ }
 {
-    let e = nothing_made(findings, at);
-    if node.operator == Node::OR {
-        return or_turn(place, la, ra, e, made, ticks, loggers, out);
-    }
-    if node.operator == Node::AND {
-        return and_turn(
-            node,
-            place,
-            left,
-            right,
-            la,
-            ra,
-            e,
+    let n = arrivals.len();
+    let mut i: usize = 0;
+    while i < n {
+        let limit = act(
+            turn,
+            lists,
+            tally,
             made,
+            &arrivals[i],
             ticks,
             globals,
             loggers,
             out,
         );
+        if limit.is_reached() {
+            return limit;
+        }
+        i = i + 1;
     }
-    seq_turn(
-        node,
-        place,
-        left,
-        la,
-        ra,
-        e,
-        made,
-        ticks,
-        globals,
-        loggers,
-        out,
-    )
+    Limit::None
 }

@@ -27,6 +27,10 @@ fromNode n = (n .operator, (n .context, (n .left, n .right)))
 abbrev pub node : Form Node
 node = via toNode fromNode (pair (number 1) (pair (number 1) (pair (number 2) (number 2))))
 
+-- its inputs, by index: left, then right
+abbrev pub inputsOf : Node → List ℕ
+inputsOf n = n .left ∷ n .right ∷ []
+
 -- clocks: the ratio, 4 bytes; loggers and kinds: a number each, 2 bytes; nodes
 unfoldable pub planBytes : Plan → List ℕ
 planBytes p =

@@ -51,24 +51,6 @@ impl Node {
     }
 }
 
-fn wide(n: u16) -> u64
-    ensures { λ r. ⌜ r ≡ n ⌝ }
-{
-    n as u64
-}
-
-// A node from its row.
-pub fn node_of(row: &NodeRow) -> Node
-    ensures { λ r. ⌜ r ≡ nodeOf (now (row .entry)) ⌝ }
-{
-    Node {
-        operator: wide(row[0]),
-        context: wide(row[1]),
-        left: wide(row[2]),
-        right: wide(row[3]),
-    }
-}
-
 const MAX_LOGGERS: u64 = 8;
 
 const MAX_KINDS: u64 = 32;
@@ -97,7 +79,14 @@ pub type Loggers = [u16; 8];
 
 pub type Kinds = [u16; 32];
 
+// A node's operator, its context, and its inputs, left and right.
 pub type NodeRow = [u16; 4];
+
+pub const OPERATOR: usize = 0;
+
+pub const CONTEXT: usize = 1;
+
+pub const INPUTS: usize = 2;
 
 pub type Nodes = [NodeRow; 16];
 

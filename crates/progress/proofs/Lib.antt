@@ -1,3 +1,4 @@
+pub mod Happened
 pub mod Inputs
 pub mod Parts
 pub mod Rows

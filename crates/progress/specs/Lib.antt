@@ -1,3 +1,5 @@
-pub mod Parts
+pub mod Happened
 pub mod Progress
+pub mod Rows
+pub mod Seats
 pub mod Steps

@@ -1,4 +1,6 @@
 pub mod Bits
 pub mod Due
-pub mod Filled
-pub mod Slots
+pub mod Fillings
+pub mod Made
+pub mod Rooms
+pub mod Takers

@@ -1,32 +1,102 @@
-// Which node looks where: the slot where what arrives by an input is counted, the nodes that look at each slot, where the nodes' lists begin, and the nodes
-// that are due in an event.
+// The seats of the nodes in a run: for each node its context, where what it makes stands, and for each of its inputs what an arrival does, where arrivals are
+// counted, and where those that wait stand; the nodes that look at each slot; and the nodes that are due in an event.
+use passages::Places;
 use plans::NodeRow;
 use plans::Nodes;
+ghost use mathlib.Core.List.{List, map};
 ghost use mathlib.Core.Path.{_≡_};
-ghost use Prim.Native.Nat.{ℕ, _-_, _≤_, _<_};
+ghost use Prim.Native.Nat.{ℕ, min, _+_, _*_, _≤_, _<_};
 ghost use lib.Count.{trailingZeros};
-ghost use lib.ListN.{getD, replicate};
-ghost use Rattle.progress.specs.Parts.{Parts, madeRoom, roomOf};
-ghost use Rattle.progress.specs.Steps.{Slots, Takers, dueAfter, noCounts, slotAt};
+ghost use lib.ListN.{getD, length, replicate, take};
+ghost use Rattle.plans.specs.declared.Node.{Node};
+ghost use Rattle.plans.specs.Limits.{noNode};
+ghost use Rattle.plans.specs.Views.{nodeOf};
+ghost use Rattle.arrivals.specs.Meetings.{actionFrom, mayWait};
+ghost use Rattle.progress.specs.Seats.{Enough, dueAfter, madeRoom, placesAt, roomOf, slotAt};
+ghost use Rattle.slots.specs.Steps.{AllSeated, Filling, InputsSeated};
 
-// For each node the slot of its input on one side.
-pub type InputSlots = [u8; 16];
+// For each node eight numbers: its context; where what it makes begins; and for each input what an arrival does, its slot, and where those that wait begin.
+// After the last node stands where both end.
+pub type Seats = [u16; 136];
+
+// How many numbers a seat has, and how many each of its inputs.
+pub const SEAT: usize = 8;
+
+pub const INPUT: usize = 3;
+// Where a seat's numbers stand. The context is first, then where what the node makes begins; of the first input what an arrival does, its slot, and where those
+// that wait begin. Those of the second stand INPUT further on.
+pub const MADE: usize = 1;
+
+pub const ACTION: usize = 2;
+
+pub const SLOT: usize = 3;
+
+pub const LIST: usize = 4;
+// Likewise where the second input's list begins, and of the next node its lists, and what it makes.
+pub const RIGHT_LIST: usize = 7;
+
+pub const NEXT_LIST: usize = 12;
+
+pub const NEXT_MADE: usize = 9;
 
 // For each slot the nodes that look there, as bits.
 pub type SlotTakers = [u16; 50];
 
-// Where the nodes' lists on one side begin, and where the last one ends; likewise what is made, with the event itself in front.
-pub type ListEnds = [u16; 17];
+// For each kind how many places a list that takes it is given.
+pub type KindPlaces = [u8; 34];
 
-pub type MadeEnds = [u16; 18];
+// ---- how many places
+
+// One event more of a kind, 16 at most.
+fn one_more(n: u8) -> u8
+    ensures { λ r. ⌜ r ≡ min (n + 1) 16 ⌝ }
+{
+    if n < 16 { n + 1 } else { 16 }
+}
+
+// How many events there are of each kind, 16 at most, into an array that is lent with zeros in it.
+pub fn count_kinds(kinds: &Places, count: usize, places: &mut KindPlaces)
+    requires { ⌜ (count ≤ 128) × ((i : ℕ) → i < count → getD (now kinds) i 0 < 33) × (now places ≡ replicate 34 0) ⌝ }
+    ensures { λ _. ⌜ Enough count (now (kinds .entry)) (now (places .exit)) ⌝ }
+{
+    let mut i: usize = 0;
+    while i < count {
+        let q = kinds[i] as usize;
+        places[q] = one_more(places[q]);
+        i = i + 1;
+    }
+}
+
+// How many places a list is given: one for the list itself; and where arrivals may come to wait, as many as those that can come by its slot, 16 at most.
+fn room_of(action: u16, slot: u8, places: &KindPlaces) -> u16
+    requires { ⌜ ((q : ℕ) → getD (now places) q 0 ≤ 16) ⌝ }
+    ensures { λ r. ⌜ (r ≡ roomOf (mayWait (actionFrom action)) (placesAt (now (places .entry)) slot)) × (1 ≤ r) × (r ≤ 17) ⌝ }
+{
+    if !arrivals::may_wait(action) {
+        return 1;
+    }
+    if slot < 34 {
+        let q = slot as usize;
+        places[q] as u16 + 1
+    } else {
+        17
+    }
+}
+
+// Eight places for what a node makes, if anyone takes it.
+fn made_room(takers: u16) -> u16
+    ensures { λ r. ⌜ r ≡ madeRoom takers ⌝ }
+{
+    if takers == 0 { 0 } else { 8 }
+}
+
+// ---- seats
 
 // Where what arrives by an input of node k is counted: at its place for a kind, past the kinds for an earlier node; any other input where nothing is.
-// The node's row holds its left input at place 2 and its right input at place 3.
-fn slot_of(row: &NodeRow, side: usize, k: usize) -> u8
-    requires { ⌜ (side < 4) × (k < 16) ⌝ }
-    ensures { λ r. ⌜ r ≡ slotAt k (getD (now (row .entry)) side 0) ⌝ }
+fn slot_of(input: u16, k: usize) -> u8
+    requires { ⌜ k < 16 ⌝ }
+    ensures { λ r. ⌜ r ≡ slotAt k input ⌝ }
 {
-    let input = row[side];
     if input < 33 {
         input as u8
     } else if input < 32768 {
@@ -38,96 +108,82 @@ fn slot_of(row: &NodeRow, side: usize, k: usize) -> u8
     }
 }
 
-// The row where what is counted in a slot stands: what node p made in row p + 1, the event itself in row 0.
-pub fn row_of(slot: usize) -> usize
-    ensures { λ r. ⌜ r ≡ slot - 33 ⌝ }
+// The inputs of node k: their part of its seat, and the node among the takers of their slots. The lists begin where those of the node before end; where they
+// end is returned.
+fn seat_inputs(
+    row: &NodeRow,
+    k: usize,
+    start: u16,
+    places: &KindPlaces,
+    seats: &mut Seats,
+    takers: &mut SlotTakers,
+) -> u16
+    requires { ⌜ (k < 16) × (start ≤ 34 * k) × ((q : ℕ) → getD (now places) q 0 ≤ 16) × (length (now seats) ≡ 136) × (length (now takers) ≡ 50) ⌝ }
+    ensures { λ r. ⌜ ((nodes : List Node) → getD nodes k noNode ≡ nodeOf (now (row .entry))
+        → Filling (now (places .entry)) nodes k 0 (now (seats .entry)) (now (takers .entry)) start
+        → Filling (now (places .entry)) nodes (k + 1) 0 (now (seats .exit)) (now (takers .exit)) r) ⌝ }
 {
-    if slot < 33 { 0 } else { slot - 33 }
-}
-
-// The slots of the nodes' inputs on one side, into an array that is lent.
-pub fn slots_of(nodes: &Nodes, n: usize, side: usize, slots: &mut InputSlots)
-    requires { ⌜ (n ≤ 16) × (side < 4) ⌝ }
-    ensures { λ _. ⌜ Slots side n (now (nodes .entry)) (now (slots .exit)) ⌝ }
-{
-    // The array as a slice is what tells the proof its length.
-    let places = slots[..].len();
-    let mut k: usize = 0;
-    while k < n {
-        slots[k] = slot_of(&nodes[k], side, k);
-        k = k + 1;
+    let operator = row[plans::OPERATOR];
+    let mut l = start;
+    let mut i: usize = 0;
+    while i < 2 {
+        let at = SEAT * k + INPUT * i;
+        let action = operators::action_of(operator, i);
+        let slot = slot_of(row[plans::INPUTS + i], k);
+        let q = slot as usize;
+        takers[q] = takers[q] | 1u16 << k;
+        seats[at + ACTION] = action;
+        seats[at + SLOT] = slot as u16;
+        seats[at + LIST] = l;
+        l = l + room_of(action, slot, places);
+        i = i + 1;
     }
+    l
 }
 
-// For each slot the nodes that look there, as bits, into a table that is lent with none in it.
-pub fn takers(lefts: &InputSlots, rights: &InputSlots, n: usize, nodes: &mut SlotTakers)
-    requires { ⌜ (n ≤ 16) × ((k : ℕ) → k < n → (getD (now lefts) k 0 < 50) × (getD (now rights) k 0 < 50)) × (now nodes ≡ noCounts) ⌝ }
-    ensures { λ _. ⌜ Takers (now (lefts .entry)) (now (rights .entry)) n (now (nodes .exit)) ⌝ }
-{
-    let mut k: usize = 0;
-    while k < n {
-        let a = lefts[k] as usize;
-        let b = rights[k] as usize;
-        let node = 1u16 << k;
-        nodes[a] = nodes[a] | node;
-        nodes[b] = nodes[b] | node;
-        k = k + 1;
-    }
-}
-
-// How many places a waiting list is given: one for the list itself; and where the node has that list, `most` in all if it takes a kind, 17 if it takes what
-// a node made.
-fn room_of(has: bool, slot: u8, most: u16) -> u16
-    ensures { λ r. ⌜ r ≡ roomOf has slot most ⌝ }
-{
-    if has {
-        if slot < 34 { most } else { 17 }
-    } else {
-        1
-    }
-}
-
-// Eight places for what a node makes, if anyone takes it.
-fn made_room(takers: u16) -> u16
-    ensures { λ r. ⌜ r ≡ madeRoom takers ⌝ }
-{
-    if takers == 0 { 0 } else { 8 }
-}
-
-// The nodes' waiting lists stand one after the other, and so does what the nodes make in an event: where each begins, and where the last ends, into arrays
-// that are lent with zeros in them. A node's row has its operator at place 0: OR, operator 1, has no list, and only AND, operator 2, has one on the right.
-pub fn parts(
+// The inputs of all nodes, into arrays that are lent with zeros in them.
+pub fn seat_nodes(
     nodes: &Nodes,
     n: usize,
-    lefts: &InputSlots,
-    rights: &InputSlots,
-    takers: &SlotTakers,
-    most: u16,
-    left_at: &mut ListEnds,
-    right_at: &mut ListEnds,
-    made_at: &mut MadeEnds,
+    places: &KindPlaces,
+    seats: &mut Seats,
+    takers: &mut SlotTakers,
 )
-    requires { ⌜ (n ≤ 16) × (most ≤ 17) × (now «left_at» ≡ replicate 17 0) × (now «right_at» ≡ replicate 17 0) × (now «made_at» ≡ replicate 18 0) ⌝ }
-    ensures { λ _. ⌜ Parts n most (now (nodes .entry)) (now (lefts .entry)) (now (rights .entry)) (now (takers .entry))
-        (now («left_at» .exit)) (now («right_at» .exit)) (now («made_at» .exit)) ⌝ }
+    requires { ⌜ (n ≤ 16) × ((q : ℕ) → getD (now places) q 0 ≤ 16) × (now seats ≡ replicate 136 0) × (now takers ≡ replicate 50 0) ⌝ }
+    ensures { λ _. ⌜ InputsSeated (map nodeOf (take n (now (nodes .entry)))) (now (places .entry)) (now (takers .exit)) (now (seats .exit)) ⌝ }
 {
+    // The array as a slice is what tells the proof its length.
+    let rows = nodes[..].len();
     let mut l: u16 = 0;
-    let mut r: u16 = 0;
-    let mut m: u16 = 1;
-    made_at[1] = m;
     let mut k: usize = 0;
     while k < n {
-        let node = nodes[k];
-        let operator = node[0];
-        l = l + room_of(operator != 1, lefts[k], most);
-        r = r + room_of(operator == 2, rights[k], most);
+        l = seat_inputs(&nodes[k], k, l, places, seats, takers);
+        k = k + 1;
+    }
+    seats[SEAT * n + LIST] = l;
+}
+
+// The rest of each seat: the context, and where what the node makes begins. The event itself stands in front of all that is made.
+pub fn seat_made(nodes: &Nodes, n: usize, takers: &SlotTakers, seats: &mut Seats)
+    requires { ⌜ (n ≤ 16) × (length (now seats) ≡ 136) ⌝ }
+    ensures { λ _. ⌜ ((places : List ℕ) → InputsSeated (map nodeOf (take n (now (nodes .entry)))) places (now (takers .entry)) (now (seats .entry))
+        → AllSeated n (map nodeOf (take n (now (nodes .entry)))) places (now (takers .entry)) (now (seats .exit))) ⌝ }
+{
+    // The array as a slice is what tells the proof its length.
+    let rows = nodes[..].len();
+    let mut m: u16 = 1;
+    let mut k: usize = 0;
+    while k < n {
+        let row = &nodes[k];
+        seats[SEAT * k] = row[plans::CONTEXT];
+        seats[SEAT * k + MADE] = m;
         m = m + made_room(takers[34 + k]);
         k = k + 1;
-        left_at[k] = l;
-        right_at[k] = r;
-        made_at[k + 1] = m;
     }
+    seats[SEAT * n + MADE] = m;
 }
+
+// ---- the nodes that are due
 
 // The first of the nodes that are due.
 pub fn next_due(due: u64) -> usize

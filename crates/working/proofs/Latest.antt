@@ -1,25 +1,22 @@
 -- From stamps by logger place to stamps by logger number: a finding of an exact occurrence is exact as it is written.
-use mathlib.Core.Bool.{Bool, true, false}
+use mathlib.Core.Bool.{true, false}
 use mathlib.Core.List.{List, map, Memᴰ·cast}
-use mathlib.Core.Logic.{⊎-elim}
-use mathlib.Core.Path.{_≡_, refl, sym, ap, subst, _∙_}
-use Prim.Native.Nat.{ℕ, zero, suc, _+_, _-_, _<_}
+use mathlib.Core.Path.{_≡_, sym, ap, subst, _∙_}
+use Prim.Native.Nat.{ℕ, _-_, _<_}
 use native.Mathlib.Decide.{ℕ-discrete, decLt}
 use native.Mathlib.Omega.{arith}
 use lib.Dec.{eqb}
 use lib.ListN.{getD, length, length-map}
 use borrow.Author.Tests.{eq-eqb, ne-eqb}
-use Rattle.sequences.specs.Choice.{pick}
 use Rattle.sequences.specs.Members.{_isIn_, SameMembers}
-use Rattle.sequences.specs.Range.{Rising}
 use Rattle.sequences.proofs.Members.{map-in, map-of, same-sym}
 use Rattle.sequences.proofs.Parts.{getD-map}
 use Rattle.sequences.proofs.Rising.{keys-same, later-rises}
 use Rattle.timestamps.specs.declared.Timestamp.{Timestamp}
 use Rattle.timestamps.specs.Composite.{members, presentAt, stampAt}
-use Rattle.timestamps.specs.Order.{Clocks, before, blank as blankStamp, clearlyEarlier, globalOf}
+use Rattle.timestamps.specs.Order.{Clocks, before, blank as blankStamp, globalOf}
 use Rattle.timestamps.proofs.Composite.{at-place, stamp-in}
-use Rattle.event_sets.specs.Sets.{elements, has}
+use Rattle.event_sets.specs.Sets.{elements}
 use Rattle.event_sets.proofs.Members.{elements-has}
 use Rattle.occurrences.specs.declared.Occurrence.{Occurrence}
 use Rattle.occurrences.specs.Latest.{Exact, stampsAt}

@@ -4,9 +4,8 @@
 use mathlib.Core.Logic.{_⊎_, ⊎-elim}
 use mathlib.Core.List.{List, [], _++_, map, Memᴰ·append-left, Memᴰ·append-right, List·Memᴰ·head, List·Memᴰ·tail, List·Memᴰ·not-nil}
 use mathlib.Core.Path.{_≡_, refl, sym, ap, subst, _∙_}
-use Prim.Native.Nat.{ℕ, _≤_, _<_}
+use Prim.Native.Nat.{ℕ, _≤_}
 use native.Mathlib.Omega.{arith}
-use lib.Dec.{eqb}
 use lib.ListN.{drop, length, take}
 use lib.Seq.{take-all, take-append-seam}
 use borrow.Author.Tests.{ne-eqb}
@@ -187,7 +186,7 @@ module _ (plan passage : List ℕ) (room : ℕ) (B : Bytes plan) (C : Bytes pass
       go : Ends plan passage room → worked plan passage room .number isIn answerNumbers
       go (plan-fault number place l m e) = rw e (of-plan number l m)
       go (passage-fault p a number place l m e) = rw e (of-passage number l m)
-      go (works p a es b e) = let (l, n) = kept p a es b .limit in rw (e, n) (of-limit l)
+      go (works p a es b e) = rw e (of-limit (runOf room p (passageEvents p passage) .limit))
 
   -- whichever list of findings has those bytes, each of it is exact
   pub findings-exact : (fs : List Finding) → AllFit fs → worked plan passage room .bytes ≡ findingsBytes fs

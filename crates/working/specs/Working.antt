@@ -10,7 +10,7 @@ use Rattle.plans.specs.Layout.{Plan}
 use Rattle.plans.specs.Reader.{PlanAnswer, readPlan}
 use Rattle.passages.specs.Events.{passageEvents}
 use Rattle.passages.specs.Reader.{PassageAnswer, readPassage}
-use Rattle.emissions.specs.Emissions.{reached}
+use Rattle.emissions.specs.Emissions.{numberOf, reached}
 use Rattle.progress.specs.Progress.{Progress, runOf}
 use Rattle.working.specs.declared.Answer.{Answer}
 
@@ -31,7 +31,7 @@ turnedBack number place = record { number = number; place = place; findings = 0;
 
 -- worked to its end, or to a limit: its place is the number of the event that met it
 abbrev pub endOf : Progress → Work
-endOf p = record { number = p .limit; place = pick (reached (p .limit)) (p .event) 0; findings = p .findings; bytes = p .bytes }
+endOf p = record { number = numberOf (p .limit); place = pick (reached (p .limit)) (p .event) 0; findings = p .findings; bytes = p .bytes }
 
 abbrev pub passageWorked : ℕ → Plan → List ℕ → PassageAnswer → Work
 passageWorked room plan passage a = pick (eqb (a .number) 0) (endOf (runOf room plan (passageEvents plan passage))) (turnedBack (a .number) (a .place))

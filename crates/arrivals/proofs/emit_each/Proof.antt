@@ -4,7 +4,11 @@ use Rattle.arrivals.proofs.Each.{each-end, each-turn}
 use Rattle.arrivals.proofs.Views.{Left}
 use Rattle.detections.proofs.Writing.{beyond-none, beyond-then}
 use Rattle.detections.specs.Writing.{Beyond}
-use Rattle.emissions.specs.Emissions.{Emits, Emitting, emitted, emittedAll}
+use Rattle.emissions.specs.declared.Limit.the-variants.{None}
+use Rattle.emissions.specs.Emissions.{Emits, Emitting, emitted, emittedAll, findingsIn, placeIn, reached}
+use Rattle.emissions.proofs.Emitting.{emits-as}
+use Rattle.emissions.proofs.Limits.{emitted-still, unreached}
+use Rattle.sequences.proofs.Loops.{fold-still}
 use Rattle.event_sets.proofs.Words.{rest-less}
 use Rattle.occurrences.proofs.Packed.{stands-within}
 use Rattle.occurrences.specs.Combination.{combinedOf}
@@ -19,29 +23,23 @@ use Rattle.waiting_lists.specs.Lists.{Waits}
 use Rattle.waiting_lists.specs.Marks.{marksOf}
 use borrow.Author.Needs.{needs}
 use denote.Ref.{now}
-use lib.ListN.{getD, length}
+use lib.ListN.{getD, length, set}
+use mathlib.Core.Bool.{Bool, false}
 use mathlib.Core.List.{List, map}
-use mathlib.Core.Path.{_∙_, _≡_, refl, subst, sym}
+use mathlib.Core.Path.{_∙_, _≡_, ap, refl, subst, sym}
 use native.Mathlib.Omega.{arith}
 use Rattle.arrivals.proofs.emit_each.Statement.{statement}
 use Rattle.arrivals.proofs.emit_each.Tie as tie
-use Rattle.arrivals.proofs.emit_each.Reads as reads
-use Rattle.arrivals.proofs.emit_each.Lts as lts
-use Rattle.emissions.proofs.emit_one.Reads as emit-one-reads
-use Rattle.occurrences.proofs.combined.Reads as combined-reads
-use Rattle.waiting_lists.proofs.list_of.Reads as list-of-reads
-use Rattle.waiting_lists.proofs.place_at.Reads as place-at-reads
-use Rattle.waiting_lists.proofs.first_marked.Reads as first-marked-reads
 
 abbrev Inv-loop : tie.InvT-loop
-Inv-loop made₀ list taken o place ticks globals loggers out₀ waiting n f₀ rest₀ i₀ made out f rest i =
-    (i ≡ firstMark (marksOf rest)) × (length out ≡ length out₀) × Beyond out₀ out (f₀ .at) (f .findings) (f .at)
-    × ((t : Notes ticks globals) (l : List Occurrence) (s : Emitting) (x : Occurrence) → Waits t list l → Emits t f₀ made₀ out₀ s → Stands t o x
-    → Left t f made out (fold (emitted (length out₀) loggers place) (map (λ w. combinedOf (t .clocks) w x) (marked l (marksOf rest))))
+Inv-loop tally₀ made₀ list taken o place ticks globals loggers out₀ waiting n rest₀ i₀ tally made out rest i =
+    (i ≡ firstMark (marksOf rest)) × (length out ≡ length out₀) × Beyond out₀ out (placeIn tally₀) (findingsIn tally) (placeIn tally)
+    × ((t : Notes ticks globals) (l : List Occurrence) (s : Emitting) (x : Occurrence) → Waits t list l → Emits t None tally₀ made₀ out₀ s → Stands t o x
+    → Left t tally made out (fold (emitted (length out₀) loggers place) (map (λ w. combinedOf (t .clocks) w x) (marked l (marksOf rest))))
     (emittedAll (length out₀) loggers place s (map (λ w. combinedOf (t .clocks) w x) (marked l (marksOf taken)))))
 
 abbrev μ-loop : tie.MeasureT-loop
-μ-loop made₀ list taken o place ticks globals loggers out₀ waiting n f₀ rest₀ i₀ made out f rest i = rest
+μ-loop tally₀ made₀ list taken o place ticks globals loggers out₀ waiting n rest₀ i₀ tally made out rest i = rest
 
 -- ---- what is read in the loop
 abbrev Read : Type 0
@@ -108,67 +106,124 @@ combined-requires c κs =
 
 emit-one-requires : tie.Need-emit-one-requires Inv-loop μ-loop
 emit-one-requires c κs =
-    let made = c .before .before .before in
+    let made = c .before .before .before .before in
     let y = made .before .before in
     let a = y .before .before in
     let q = read-of (y .before) in
     let (one, fits) = start-of q .pre in
     let (t, l, s, x, h, m, p) = one in
     let st = made .combined .ensures t (getD l (a .loop .i) noOccurrence) x (read-at t (list-at q) l h (q .list-of .result) (q .list-of .ensures) _ _ (y .place-at .ensures) (y .before .loop-test .taken)) p in
-    ((λ k b. stands-within t _ _ st k b .0), t .no-tick, a .loop .inv .2 .within, a .loop .inv .2 .few)
+    ((λ k b. stands-within t _ _ st k b .0), t .no-tick, (a .loop .inv .2 .within, a .loop .inv .2 .few))
+
+is-reached-requires : tie.Need-is-reached-requires Inv-loop μ-loop
+is-reached-requires c κs = search needs
+
+-- ---- what a finding leaves
+abbrev Told : Type 0
+Told = tie.After-is-reached Inv-loop μ-loop
+
+abbrev call-of : Told → tie.After-emit-one Inv-loop μ-loop
+call-of c = c .before .before .before
+
+abbrev in-of : Told → In
+in-of c = call-of c .before .before .before .before .before .before .before .before
+
+-- the state then; what is left from there on is the whole
+module _ (c : Told) (t : Notes (start-of (read-of (in-of c)) .args .ticks .now) (start-of (read-of (in-of c)) .args .globals .now)) (l : List Occurrence) (s : Emitting) (x : Occurrence)
+    (h : Waits t (list-at (read-of (in-of c))) l)
+    (m : (let a = start-of (read-of (in-of c)) .args in Emits t None (a .tally .now) (a .made .now) (a .out .now) s)) (p : Stands t (start-of (read-of (in-of c)) .args .o .now) x) where
+  abbrev loop-of : tie.At-loop Inv-loop μ-loop
+  loop-of = in-of c .before
+
+  abbrev marks : List Bool
+  marks = marksOf (loop-of .loop .rest)
+
+  first : loop-of .loop .i ≡ firstMark marks
+  first = loop-of .loop .inv .0
+
+  abbrev so-far-of : Emitting
+  so-far-of = loop-of .loop .inv .3 t l s x h m p .so-far
+
+  abbrev then-of : Emitting
+  then-of = let a = start-of (read-of (in-of c)) .args in
+      emitted (length (a .out .now)) (a .loggers .now) (a .place) so-far-of (combinedOf (t .clocks) (getD l (firstMark marks) noOccurrence) x)
+
+  emits-then : Emits t (call-of c .emit-one .result) (call-of c .emit-one .last .0) (call-of c .emit-one .last .1 .0) (call-of c .emit-one .last .1 .1 .1 .1 .1 .1 .0) then-of
+  emits-then =
+      let made = call-of c .before .before .before .before .before in
+      let y = made .before .before in
+      let q = read-of (in-of c) in
+      let r = loop-of .loop .inv .3 t l s x h m p in
+      let st = subst (λ (j : ℕ). Stands t (made .combined .result) (combinedOf (t .clocks) (getD l j noOccurrence) x)) first
+      (made .combined .ensures t (getD l (loop-of .loop .i) noOccurrence) x (read-at t (list-at q) l h (q .list-of .result) (q .list-of .ensures) _ _ (y .place-at .ensures) (in-of c .loop-test .taken)) p) in
+      let found = combinedOf (t .clocks) (getD l (firstMark marks) noOccurrence) x in
+      subst (λ (n : ℕ). Emits t (call-of c .emit-one .result) (call-of c .emit-one .last .0) (call-of c .emit-one .last .1 .0) (call-of c .emit-one .last .1 .1 .1 .1 .1 .1 .0) (emitted n (start-of q .args .loggers .now) (start-of q .args .place) so-far-of found)) (loop-of .loop .inv .1)
+      (call-of c .emit-one .ensures .0 (now (start-of q .args .globals)) t (r .so-far) found (r .emits) st)
+
+  rest-then : (m′ : List Bool) → m′ ≡ set marks (firstMark marks) false
+      → (let a = start-of (read-of (in-of c)) .args in
+      fold (emitted (length (a .out .now)) (a .loggers .now) (a .place)) (map (λ w. combinedOf (t .clocks) w x) (marked l m′)) then-of
+      ≡ emittedAll (length (a .out .now)) (a .loggers .now) (a .place) s (map (λ w. combinedOf (t .clocks) w x) (marked l (marksOf (a .taken)))))
+  rest-then m′ e =
+      let q = read-of (in-of c) in
+      let in-marks : firstMark marks < length marks = omega (arith, length-marks (loop-of .loop .rest), few-at (in-of c), first) in
+      let in-l : firstMark marks < length l = omega (arith, first, in-of c .loop-test .taken, read-length t (list-at q) l h (q .list-of .result) (q .list-of .ensures)) in
+      each-turn _ (λ w. combinedOf (t .clocks) w x) l marks m′ noOccurrence in-l in-marks e so-far-of _ refl ∙ loop-of .loop .inv .3 t l s x h m p .same
+
+same-length : tie.Need-same-length Inv-loop μ-loop
+same-length c = search needs
+
+returns : tie.Need-returns Inv-loop μ-loop
+returns c =
+    let told = c .before in (
+      (λ t l s x h m p.
+          let a = start-of (read-of (in-of told)) .args in
+          let e = emits-then told t l s x h m p in
+          let met = ap reached (e .limit) ∙ sym (told .is-reached .ensures) ∙ c .if1 .taken in
+          subst (Emits t _ _ _ _)
+          (sym (fold-still _ _ (emitted-still (length (a .out .now)) (a .loggers .now) (a .place) (then-of told t l s x h m p) met) _) ∙ rest-then told t l s x h m p _ refl)
+          e),
+      beyond-then (in-of told .before .loop .inv .2) (call-of told .emit-one .ensures .1),
+    )
 
 sub-rest : tie.Need-sub-rest Inv-loop μ-loop
-sub-rest c =
-    let t = c .before .before .before .before .before .before .before .before .before in
-    let a = t .before in
-    first-some (a .loop .rest) (omega (arith, a .loop .inv .0, few-at t))
+sub-rest c = let t = in-of (c .before) in first-some (t .before .loop .rest) (omega (arith, t .before .loop .inv .0, few-at t))
 
 first-marked-requires-2 : tie.Need-first-marked-requires-2 Inv-loop μ-loop
 first-marked-requires-2 c κs = search needs
 
 loop-less : tie.Need-loop-less Inv-loop μ-loop
 loop-less c =
-    let t = c .before .before .before .before .before .before .before .before .before .before in
-    let a = t .before in
-    rest-less (a .loop .rest) (first-some (a .loop .rest) (omega (arith, a .loop .inv .0, few-at t)))
+    let t = in-of (c .before .before) in
+    rest-less (t .before .loop .rest) (first-some (t .before .loop .rest) (omega (arith, t .before .loop .inv .0, few-at t)))
 
 loop-again : tie.Need-loop-again Inv-loop μ-loop
 loop-again c =
-    let call = c .before .before .before in
-    let made = call .before .before .before .before in
-    let y = made .before .before in
-    let in-loop = y .before in
-    let a = in-loop .before in
-    let q = read-of in-loop in
-    let marks = marksOf (a .loop .rest) in
-    let first : a .loop .i ≡ firstMark marks = a .loop .inv .0 in
-    let in-marks : firstMark marks < length marks = omega (arith, length-marks (a .loop .rest), few-at in-loop, first) in (
+    let told = c .before .before in
+    let a = in-of told .before in
+    let none = unreached (call-of told .emit-one .result) (sym (told .is-reached .ensures) ∙ c .before .if1 .left) in (
       c .first-marked2 .ensures,
       search needs,
-      beyond-then (a .loop .inv .2) (call .emit-one .ensures .1),
+      beyond-then (a .loop .inv .2) (call-of told .emit-one .ensures .1),
       λ t l s x h m p.
-          let r = a .loop .inv .3 t l s x h m p in
-          let in-l : firstMark marks < length l = omega (arith, first, in-loop .loop-test .taken, read-length t (list-at q) l h (q .list-of .result) (q .list-of .ensures)) in
-          let st = rw first at (made .combined .ensures t (getD l (a .loop .i) noOccurrence) x (read-at t (list-at q) l h (q .list-of .result) (q .list-of .ensures) _ _ (y .place-at .ensures) (in-loop .loop-test .taken)) p) in
-          let em = rw (a .loop .inv .1) at (call .emit-one .ensures .0 (now (start-of q .args .globals)) t (r .so-far) (combinedOf (t .clocks) (getD l (firstMark marks) noOccurrence) x) (r .emits) st) in
           record {
-            so-far = _;
-            emits = em;
-            same = each-turn _ (λ w. combinedOf (t .clocks) w x) l marks _ noOccurrence in-l in-marks (marks-rest (a .loop .rest)) (r .so-far) _ refl ∙ r .same;
+            so-far = then-of told t l s x h m p;
+            emits = emits-as t (emits-then told t l s x h m p) None none;
+            same = rest-then told t l s x h m p _ (marks-rest (a .loop .rest));
           },
     )
 
-same-length : tie.Need-same-length Inv-loop μ-loop
-same-length c = c .before .loop .inv .1
+same-length-2 : tie.Need-same-length-2 Inv-loop μ-loop
+same-length-2 c = c .before .loop .inv .1
 
-returns : tie.Need-returns Inv-loop μ-loop
-returns c =
+returns-2 : tie.Need-returns-2 Inv-loop μ-loop
+returns-2 c =
     let a = c .before in
     let q = a .before .before in (
       (λ t l s x h m p.
           let r = a .loop .inv .3 t l s x h m p in
           let past : length l ≤ firstMark (marksOf (a .loop .rest)) = omega (arith, read-length t (list-at q) l h (q .list-of .result) (q .list-of .ensures), a .loop .inv .0, c .loop-test .left) in
-          subst (Emits t _ _ _) (sym (each-end _ (λ w. combinedOf (t .clocks) w x) l (marksOf (a .loop .rest)) (r .so-far) past) ∙ r .same) (r .emits)),
+          subst (Emits t _ _ _ _) (sym (each-end _ (λ w. combinedOf (t .clocks) w x) l (marksOf (a .loop .rest)) (r .so-far) past) ∙ r .same) (r .emits)),
       a .loop .inv .2,
     )
 
@@ -186,9 +241,12 @@ emit-each-spec =
     shared-slice-element-combined
     combined-requires
     emit-one-requires
+    is-reached-requires
+    same-length
+    returns
     sub-rest
     first-marked-requires-2
     loop-less
     loop-again
-    same-length
-    returns)
+    same-length-2
+    returns-2)

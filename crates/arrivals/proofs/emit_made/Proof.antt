@@ -7,11 +7,6 @@ use mathlib.Core.Path.{refl, subst}
 use borrow.Author.Needs.{needs}
 use Rattle.arrivals.proofs.emit_made.Statement.{statement}
 use Rattle.arrivals.proofs.emit_made.Tie as tie
-use Rattle.arrivals.proofs.emit_made.Reads as reads
-use Rattle.arrivals.proofs.emit_made.Lts as lts
-use Rattle.arrivals.proofs.emit_each.Reads as emit-each-reads
-use Rattle.arrivals.proofs.emit_together.Reads as emit-together-reads
-use Rattle.contexts.proofs.makes_each.Reads as makes-each-reads
 
 makes-each-requires : tie.Need-makes-each-requires
 makes-each-requires c κs = search needs
@@ -29,9 +24,9 @@ returns : tie.Need-returns
 unfolding madeOf
 returns c =
     let call = c .before .before in
-    let yes = call .before .before .before in
+    let yes = call .before .before .before .before in
     let row = yes .before .makes-each .ensures .0 (yes .if1 .taken) in
-    ((λ t l s x h m p. subst (Emits t _ _ _) (emits-by _ _ _ s _ _ each (t .clocks) _ x row refl) (call .emit-each .ensures .0 t l s x h m p)), call .emit-each .ensures .1)
+    ((λ t l s x h m p. subst (Emits t _ _ _ _) (emits-by _ _ _ s _ _ each (t .clocks) _ x row refl) (call .emit-each .ensures .0 t l s x h m p)), call .emit-each .ensures .1)
 
 same-length-2 : tie.Need-same-length-2
 same-length-2 c = search needs
@@ -39,9 +34,9 @@ same-length-2 c = search needs
 returns-2 : tie.Need-returns-2
 returns-2 c =
     let call = c .before .before in
-    let no = call .before .before .before in
+    let no = call .before .before .before .before in
     let row = no .before .makes-each .ensures .1 (no .if1 .left) in
-    ((λ t l s x h m p. subst (Emits t _ _ _) (emits-by _ _ _ s _ _ together (t .clocks) _ x row refl) (call .emit-together .ensures .0 t l s x h m p)), call .emit-together .ensures .1)
+    ((λ t l s x h m p. subst (Emits t _ _ _ _) (emits-by _ _ _ s _ _ together (t .clocks) _ x row refl) (call .emit-together .ensures .0 t l s x h m p)), call .emit-together .ensures .1)
 
 pub emit-made-spec : {M : Type 1} → statement M
 emit-made-spec =

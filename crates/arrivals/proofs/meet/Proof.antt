@@ -1,28 +1,29 @@
 -- No candidate, a limit, or on to the removal.
 use Prim.Native.Nat.{_≤_}
-use Rattle.arrivals.proofs.Arrivals.{met-goes, met-none, met-stopped}
-use Rattle.arrivals.specs.Views.{HoldsMet}
-use Rattle.detections.proofs.Examples.{bytes}
+use Rattle.arrivals.proofs.Each.{emits-none}
+use Rattle.arrivals.proofs.Meetings.{found-is, goes-by, none-found, none-left-out, rest-is, same-by, stays-by}
+use Rattle.contexts.specs.Table.{rowOf}
 use Rattle.detections.proofs.Writing.{beyond-none}
-use Rattle.emissions.specs.Emissions.{reached}
+use Rattle.emissions.proofs.Emitting.{emits-as}
+use Rattle.emissions.proofs.Limits.{unreached}
+use Rattle.emissions.specs.Emissions.{Emits, Emitting, emittedAll, reached}
+use Rattle.emissions.specs.declared.Limit.the-variants.{None}
+use Rattle.occurrences.specs.Packed.{Notes, Stands}
+use Rattle.occurrences.specs.declared.Occurrence.{Occurrence}
 use Rattle.sequences.proofs.Marks.{marked-none}
 use Rattle.sequences.specs.Marks.{firstMark}
 use Rattle.waiting_lists.proofs.Waits.{waits-few}
+use Rattle.waiting_lists.specs.Lists.{Waits}
 use Rattle.waiting_lists.specs.Marks.{marksOf}
+use Rattle.arrivals.specs.Meetings.{findingsOf}
+use borrow.Author.Needs.{needs}
 use denote.Ref.{now}
 use lib.ListN.{length}
-use mathlib.Core.Path.{_∙_, ap, refl, subst, sym}
+use mathlib.Core.List.{List}
+use mathlib.Core.Path.{_≡_, _∙_, ap, subst, sym}
 use native.Mathlib.Omega.{arith}
-use borrow.Author.Needs.{needs}
 use Rattle.arrivals.proofs.meet.Statement.{statement}
 use Rattle.arrivals.proofs.meet.Tie as tie
-use Rattle.arrivals.proofs.meet.Reads as reads
-use Rattle.arrivals.proofs.meet.Lts as lts
-use Rattle.arrivals.proofs.emit_made.Reads as emit-made-reads
-use Rattle.contexts.proofs.choose.Reads as choose-reads
-use Rattle.emissions.proofs.is_reached.Reads as is-reached-reads
-use Rattle.waiting_lists.proofs.first_marked.Reads as first-marked-reads
-use Rattle.waiting_lists.proofs.remove_from.Reads as remove-from-reads
 
 first-marked-requires : tie.Need-first-marked-requires
 first-marked-requires c κs = search needs
@@ -31,11 +32,15 @@ returns : tie.Need-returns
 returns c =
     let first = c .before in
     let start = first .before .before .before .before in
-    let list = now (start .args .list) in
+    let a = start .args in
+    let list = now (a .list) in
     let (one, fits) = start .pre in (
       (λ t l s x h m p.
-          let few : length l ≤ firstMark (marksOf (start .args .candidates)) = omega (arith, waits-few t list l h, first .first-marked .ensures, c .if1 .taken) in
-          subst (HoldsMet t _ _ _ _) (met-none _ _ _ l _ s x (marked-none l _ few)) (record { list = h; emit = record { made = m .made; findings = m .findings; bytes = m .bytes; limit = m .limit } })),
+          let few : length l ≤ firstMark (marksOf (a .candidates)) = omega (arith, waits-few t list l h, first .first-marked .ensures, c .if1 .taken) in
+          let none = marked-none l (marksOf (a .candidates)) few in
+          let same = emits-none (length (now (a .out))) (now (a .loggers)) (a .place) s _ (none-found (rowOf (a .context)) (t .clocks) l (marksOf (a .candidates)) x none) in
+          let f = emittedAll (length (now (a .out))) (now (a .loggers)) (a .place) s (findingsOf (rowOf (a .context)) (t .clocks) l (marksOf (a .candidates)) x) in
+          (subst (Emits t None _ _ _) same m, subst (Waits t list) (same-by (reached (f .limit)) l _ (none-left-out (rowOf (a .context)) (t .clocks) l (marksOf (a .candidates)) none)) h)),
       beyond-none (fits .0) (fits .1),
     )
 
@@ -48,6 +53,36 @@ emit-made-requires c κs = search needs
 is-reached-requires : tie.Need-is-reached-requires
 is-reached-requires c κs = search needs
 
+-- ---- what was made
+abbrev Told : Type 0
+Told = tie.After-is-reached
+
+abbrev call-of : Told → tie.After-emit-made
+call-of c = c .before .before .before
+
+abbrev choice-of : Told → tie.After-choose
+choice-of c = call-of c .before .before .before .before .before
+
+abbrev start-of : Told → tie.Start
+start-of c = choice-of c .before .before .before .before .before .before .before
+
+module _ (c : Told) (t : Notes (start-of c .args .ticks .now) (start-of c .args .globals .now)) (l : List Occurrence) (s : Emitting) (x : Occurrence)
+    (h : Waits t (start-of c .args .list .now) l) (m : Emits t None (start-of c .args .tally .now) (start-of c .args .made .now) (start-of c .args .out .now) s)
+    (p : Stands t (start-of c .args .o .now) x) where
+  abbrev then-of : Emitting
+  then-of = let a = start-of c .args in
+      emittedAll (length (a .out .now)) (a .loggers .now) (a .place) s (findingsOf (rowOf (a .context)) (t .clocks) l (marksOf (a .candidates)) x)
+
+  emits-then : Emits t (call-of c .emit-made .result) (call-of c .emit-made .last .0) (call-of c .emit-made .last .1 .0) (call-of c .emit-made .last .1 .1 .1 .1 .1 .1 .1 .1 .1 .1 .0) then-of
+  emits-then =
+      let a = start-of c .args in
+      let found = found-is (rowOf (a .context)) (t .clocks) l (marksOf (a .candidates)) _ x (choice-of c .choose .ensures t l h .0) in
+      subst (λ (k : List Occurrence). Emits t (call-of c .emit-made .result) (call-of c .emit-made .last .0) (call-of c .emit-made .last .1 .0) (call-of c .emit-made .last .1 .1 .1 .1 .1 .1 .1 .1 .1 .1 .0) (emittedAll (length (a .out .now)) (a .loggers .now) (a .place) s k)) found
+      (call-of c .emit-made .ensures .0 t l s x h m p)
+
+  reached-then : reached (then-of .limit) ≡ c .is-reached .result
+  reached-then = ap reached (emits-then .limit) ∙ sym (c .is-reached .ensures)
+
 same-length : tie.Need-same-length
 same-length c = search needs
 
@@ -56,20 +91,14 @@ same-length-2 c = search needs
 
 returns-2 : tie.Need-returns-2
 returns-2 c =
-    let told = c .before in
-    let call = told .before .before .before in
-    let choice = call .before .before .before .before in (
-      (λ t l s x h m p.
-          let f = call .emit-made .ensures .0 t l s x h m p in
-          let ch = choice .choose .ensures t l h in
-          subst (HoldsMet t _ _ _ _) (met-stopped _ _ _ l _ _ s _ x (ch .0) refl (ap (λ n. reached n) (f .limit) ∙ sym (told .is-reached .ensures) ∙ c .if2 .taken)) (record { list = h; emit = f })),
-      call .emit-made .ensures .1,
+    let told = c .before in (
+      (λ t l s x h m p. (emits-then told t l s x h m p, subst (Waits t _) (stays-by (reached (then-of told t l s x h m p .limit)) l _ (reached-then told t l s x h m p ∙ c .if2 .taken)) h)),
+      call-of told .emit-made .ensures .1,
     )
 
 remove-from-requires : tie.Need-remove-from-requires
 remove-from-requires c κs =
-    let choice = c .before .before .before .before .before .before .before .before .before in
-    let (one, fits) = choice .before .before .before .before .before .before .before .pre in
+    let (one, fits) = start-of (c .before .before) .pre in
     let (t, l, s, x, h, m, p) = one in
     h .some
 
@@ -84,14 +113,14 @@ returns-3 c =
     let gone = c .before in
     let go = gone .before .before in
     let told = go .before in
-    let call = told .before .before .before in
-    let choice = call .before .before .before .before in (
+    let a = start-of told .args in
+    let none = unreached (call-of told .emit-made .result) (sym (told .is-reached .ensures) ∙ go .if2 .left) in (
       (λ t l s x h m p.
-          let f = call .emit-made .ensures .0 t l s x h m p in
-          let ch = choice .choose .ensures t l h in
-          subst (HoldsMet t _ _ _ _) (met-goes _ _ _ l _ _ s _ x (ch .0) refl _ _ (ap (λ n. reached n) (f .limit) ∙ sym (told .is-reached .ensures) ∙ go .if2 .left) (ch .1) refl)
-          (record { list = gone .remove-from .ensures _ _ t l h; emit = f })),
-      call .emit-made .ensures .1,
+          let rest = rest-is (rowOf (a .context)) (t .clocks) l (marksOf (a .candidates)) _ (choice-of told .choose .ensures t l h .1) in (
+            emits-as t (emits-then told t l s x h m p) None none,
+            subst (Waits t _) (rest ∙ goes-by (reached (then-of told t l s x h m p .limit)) l _ (reached-then told t l s x h m p ∙ go .if2 .left)) (gone .remove-from .ensures _ _ t l h),
+          )),
+      call-of told .emit-made .ensures .1,
     )
 
 pub meet-spec : {M : Type 1} → statement M

@@ -17,10 +17,7 @@ returns : tie.Need-returns
 returns c = λ e. absurd (no-more e)
 
 returns-2 : tie.Need-returns-2
-returns-2 c = λ e. absurd (no-more e)
-
-returns-3 : tie.Need-returns-3
-returns-3 c = search needs
+returns-2 c = search needs
 
 pub fits-spec : {M : Type 1} → statement M
-fits-spec = tie.close (tie.spec returns returns-2 returns-3)
+fits-spec = tie.close (tie.spec returns returns-2)

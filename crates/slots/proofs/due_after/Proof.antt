@@ -1,6 +1,6 @@
 -- By whether anything was made.
 use borrow.Author.Tests.{le-ltb, lt-ltb}
-use Rattle.progress.specs.Steps.{dueAfter}
+use Rattle.progress.specs.Seats.{dueAfter}
 use borrow.Author.Needs.{needs}
 use Rattle.slots.proofs.due_after.Statement.{statement}
 use Rattle.slots.proofs.due_after.Tie as tie

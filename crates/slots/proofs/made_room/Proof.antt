@@ -1,6 +1,6 @@
 -- By whether there are takers.
 use borrow.Author.Tests.{eq-eqb, ne-eqb}
-use Rattle.progress.specs.Parts.{madeRoom}
+use Rattle.progress.specs.Seats.{madeRoom}
 use Rattle.slots.proofs.made_room.Statement.{statement}
 use Rattle.slots.proofs.made_room.Tie as tie
 

@@ -4,12 +4,6 @@ use borrow.Author.Needs.{needs}
 use Rattle.slots.proofs.slot_of.Statement.{statement}
 use Rattle.slots.proofs.slot_of.Tie as tie
 
-mul-input : tie.Need-mul-input
-mul-input c = search needs
-
-element-copy-out-input : tie.Need-element-copy-out-input
-element-copy-out-input c = search needs
-
 cast-result : tie.Need-cast-result
 cast-result c = search needs
 
@@ -35,16 +29,4 @@ returns-4 : tie.Need-returns-4
 returns-4 c = slot-past _ _ (c .before .if2 .left) (c .if3 .left)
 
 pub slot-of-spec : {M : Type 1} → statement M
-slot-of-spec =
-    tie.close
-    (tie.spec
-    mul-input
-    element-copy-out-input
-    cast-result
-    cast-if3
-    cast-result-2
-    add-result
-    returns
-    returns-2
-    returns-3
-    returns-4)
+slot-of-spec = tie.close (tie.spec cast-result cast-if3 cast-result-2 add-result returns returns-2 returns-3 returns-4)

@@ -1,0 +1,179 @@
+-- The inputs before i are seated, whatever the other nodes are.
+use mathlib.Core.List.{List}
+use mathlib.Core.Path.{_≡_, ap, _∙_}
+use Prim.Native.Nat.{_≤_, _+_, _-_, _*_}
+use native.Mathlib.Omega.{arith}
+use lib.ListN.{getD, length, length-set}
+use Rattle.plans.specs.declared.Node.{Node}
+use Rattle.plans.specs.Limits.{noNode}
+use Rattle.plans.specs.Views.{nodeOf}
+use Rattle.progress.specs.Seats.{slotAt}
+use Rattle.slots.specs.Steps.{Filling}
+use Rattle.slots.proofs.Fillings.{filling-next, filling-turn}
+use Rattle.slots.proofs.Made.{node-input, slot-in}
+use Rattle.slots.proofs.Takers.{one-shl}
+use borrow.Author.Needs.{needs}
+use Rattle.slots.proofs.seat_inputs.Statement.{statement}
+use Rattle.slots.proofs.seat_inputs.Tie as tie
+
+abbrev Inv-loop : tie.InvT-loop
+Inv-loop row k start places seats₀ takers₀ operator l₀ i₀ seats takers l i =
+    (i ≤ 2) × (length seats ≡ 136) × (length takers ≡ 50) × (l ≤ start + 17 * i)
+    × ((nodes : List Node) → getD nodes k noNode ≡ nodeOf row → Filling places nodes k 0 seats₀ takers₀ start → Filling places nodes k i seats takers l)
+
+abbrev μ-loop : tie.MeasureT-loop
+μ-loop row k start places seats₀ takers₀ operator l₀ i₀ seats takers l i = 2 - i
+
+element-copy-out-operator : tie.Need-element-copy-out-operator Inv-loop μ-loop
+element-copy-out-operator c = search needs
+
+loop-holds : tie.Need-loop-holds Inv-loop μ-loop
+loop-holds c = (search needs, search needs, search needs, search needs, λ nodes e f. f)
+
+mul-at : tie.Need-mul-at Inv-loop μ-loop
+mul-at c = search needs
+
+mul-at-2 : tie.Need-mul-at-2 Inv-loop μ-loop
+mul-at-2 c = search needs
+
+add-at : tie.Need-add-at Inv-loop μ-loop
+add-at c = search needs
+
+action-of-requires : tie.Need-action-of-requires Inv-loop μ-loop
+action-of-requires c κs = search needs
+
+add-slot-of : tie.Need-add-slot-of Inv-loop μ-loop
+add-slot-of c = search needs
+
+mul-slot-of : tie.Need-mul-slot-of Inv-loop μ-loop
+mul-slot-of c = search needs
+
+element-copy-out-slot-of : tie.Need-element-copy-out-slot-of Inv-loop μ-loop
+element-copy-out-slot-of c = search needs
+
+slot-of-requires : tie.Need-slot-of-requires Inv-loop μ-loop
+slot-of-requires c κs = search needs
+
+cast-q : tie.Need-cast-q Inv-loop μ-loop
+cast-q c = search needs
+
+mul-takers : tie.Need-mul-takers Inv-loop μ-loop
+mul-takers c = search needs
+
+element-copy-out-takers : tie.Need-element-copy-out-takers Inv-loop μ-loop
+element-copy-out-takers c = omega (arith, slot-in _ _ _ (c .slot-of .ensures))
+
+cast-takers : tie.Need-cast-takers Inv-loop μ-loop
+cast-takers c = search needs
+
+shl-takers : tie.Need-shl-takers Inv-loop μ-loop
+shl-takers c = search needs
+
+mul-takers-2 : tie.Need-mul-takers-2 Inv-loop μ-loop
+mul-takers-2 c = search needs
+
+element-write-takers : tie.Need-element-write-takers Inv-loop μ-loop
+element-write-takers c = omega (arith, slot-in _ _ _ (c .before .slot-of .ensures))
+
+add-seats : tie.Need-add-seats Inv-loop μ-loop
+add-seats c = search needs
+
+mul-seats : tie.Need-mul-seats Inv-loop μ-loop
+mul-seats c = search needs
+
+element-write-seats : tie.Need-element-write-seats Inv-loop μ-loop
+element-write-seats c = search needs
+
+cast-seats : tie.Need-cast-seats Inv-loop μ-loop
+cast-seats c = search needs
+
+add-seats-2 : tie.Need-add-seats-2 Inv-loop μ-loop
+add-seats-2 c = search needs
+
+mul-seats-2 : tie.Need-mul-seats-2 Inv-loop μ-loop
+mul-seats-2 c = search needs
+
+element-write-seats-2 : tie.Need-element-write-seats-2 Inv-loop μ-loop
+element-write-seats-2 c = search needs
+
+add-seats-3 : tie.Need-add-seats-3 Inv-loop μ-loop
+add-seats-3 c = search needs
+
+mul-seats-3 : tie.Need-mul-seats-3 Inv-loop μ-loop
+mul-seats-3 c = search needs
+
+element-write-seats-3 : tie.Need-element-write-seats-3 Inv-loop μ-loop
+element-write-seats-3 c = search needs
+
+room-of-requires : tie.Need-room-of-requires Inv-loop μ-loop
+room-of-requires c κs = search needs
+
+add-l : tie.Need-add-l Inv-loop μ-loop
+add-l c = search needs
+
+add-i : tie.Need-add-i Inv-loop μ-loop
+add-i c = search needs
+
+loop-less : tie.Need-loop-less Inv-loop μ-loop
+loop-less c = search needs
+
+loop-again : tie.Need-loop-again Inv-loop μ-loop
+loop-again c =
+    let t = c .before .before .before .before .before in
+    let s = t .before .loop in
+    let args = t .before .before .before .args in (
+      search needs,
+      simp length-set (s .inv .1),
+      simp length-set (s .inv .2),
+      search needs,
+      λ nodes e f. filling-turn _ nodes _ _ _ _ _ _ _ _ _ (s .inv .4 nodes e f) (search needs) (search needs)
+          (rw e (c .before .before .before .before .action-of .ensures))
+          (c .before .before .slot-of .ensures ∙ rw e (ap (slotAt (args .k)) (node-input (args .row .now) (s .i) (search needs))))
+          (c .room-of .ensures .0) (one-shl (args .k) (search needs)),
+    )
+
+returns : tie.Need-returns Inv-loop μ-loop
+returns c =
+    let s = c .before .loop in
+    let done : s .i ≡ 2 = omega (arith, c .loop-test .left, s .inv .0) in
+    λ nodes e f. filling-next _ nodes _ _ _ _ (rw done at (s .inv .4 nodes e f))
+
+pub seat-inputs-spec : {M : Type 1} → statement M
+seat-inputs-spec =
+    tie.close
+    (tie.spec
+    Inv-loop
+    μ-loop
+    element-copy-out-operator
+    loop-holds
+    mul-at
+    mul-at-2
+    add-at
+    action-of-requires
+    add-slot-of
+    mul-slot-of
+    element-copy-out-slot-of
+    slot-of-requires
+    cast-q
+    mul-takers
+    element-copy-out-takers
+    cast-takers
+    shl-takers
+    mul-takers-2
+    element-write-takers
+    add-seats
+    mul-seats
+    element-write-seats
+    cast-seats
+    add-seats-2
+    mul-seats-2
+    element-write-seats-2
+    add-seats-3
+    mul-seats-3
+    element-write-seats-3
+    room-of-requires
+    add-l
+    add-i
+    loop-less
+    loop-again
+    returns)

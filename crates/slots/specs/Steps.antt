@@ -1,0 +1,69 @@
+-- The seats of the nodes while they are filled in.
+use mathlib.Core.Bool.{true, false}
+use mathlib.Core.List.{List}
+use mathlib.Core.Path.{_≡_}
+use Prim.Native.Nat.{ℕ, zero, suc, _+_, _*_, _^_, _≤_, _<_}
+use lib.ListN.{getD, length}
+use Rattle.event_sets.specs.Sets.{isSet}
+use Rattle.plans.specs.declared.Node.{Node}
+use Rattle.plans.specs.Layout.{inputsOf}
+use Rattle.plans.specs.Limits.{noNode}
+use Rattle.arrivals.specs.Meetings.{actionFrom, mayWait}
+use Rattle.operators.specs.Table.{actionOf}
+use Rattle.progress.specs.Seats.{Seated, Takers, listEnd, listStart, madeStart, placesAt, roomOf, seatAction, seatSlot, slotAt}
+
+-- ---- where the lists begin
+-- the sum of the first n values
+unfoldable pub total : (ℕ → ℕ) → ℕ → ℕ
+total f zero = 0
+total f (suc n) = total f n + f n
+
+-- how many places the list of an input of node k is given
+unfoldable pub roomAt : (places : List ℕ) → List Node → (k i : ℕ) → ℕ
+roomAt places nodes k i =
+    let node = getD nodes k noNode in
+    roomOf (mayWait (actionOf (node .operator) i)) (placesAt places (slotAt k (getD (inputsOf node) i 0)))
+
+-- how many are given before that list: to the nodes before, and to the inputs before
+unfoldable pub startAt : (places : List ℕ) → List Node → (k i : ℕ) → ℕ
+startAt places nodes k i = total (λ j. roomAt places nodes j 0 + roomAt places nodes j 1) k + total (roomAt places nodes k) i
+
+-- ---- while the inputs are seated: those of the nodes before k, and of node k those before i
+-- by slot, the nodes that look there by one of these inputs, as bits
+pub record TakersTo (seats : List ℕ) (k i : ℕ) (takers : List ℕ) : Type 0 where
+  pub size : length takers ≡ 50
+  pub below : (q j : ℕ) → 2 * k + i ≤ 2 * j → getD takers q 0 < 2 ^ j
+  pub takes : (j h : ℕ) → h < 2 → 2 * j + h < 2 * k + i → (q : ℕ) → q < 50 → seatSlot seats j h ≡ q → isSet (getD takers q 0) j ≡ true
+  pub others : (q j : ℕ) → q < 50 → ((h : ℕ) → h < 2 → 2 * j + h < 2 * k + i → seatSlot seats j h ≡ q → ⊥) → isSet (getD takers q 0) j ≡ false
+
+-- these inputs have their part of the seats, later nodes have none; the next list begins at l
+pub record Filling (places : List ℕ) (nodes : List Node) (k i : ℕ) (seats takers : List ℕ) (l : ℕ) : Type 0 where
+  pub size : length seats ≡ 136
+  pub action : (j h : ℕ) → h < 2 → 2 * j + h < 2 * k + i → actionFrom (seatAction seats j h) ≡ actionOf (getD nodes j noNode .operator) h
+  pub slot : (j h : ℕ) → h < 2 → 2 * j + h < 2 * k + i → seatSlot seats j h ≡ slotAt j (getD (inputsOf (getD nodes j noNode)) h 0)
+  pub list : (j h : ℕ) → h < 2 → 2 * j + h < 2 * k + i → listStart seats j h ≡ startAt places nodes j h
+  pub next : l ≡ startAt places nodes k i
+  pub past : (j a : ℕ) → 2 * k + i ≤ 2 * j → 8 * j ≤ a → getD seats a 0 ≡ 0
+  pub taken : TakersTo seats k i takers
+
+-- ---- the inputs of all nodes are seated
+pub record InputsSeated (nodes : List Node) (places takers seats : List ℕ) : Type 0 where
+  pub few : length nodes ≤ 16
+  pub size : length seats ≡ 136
+  pub action : (k i : ℕ) → k < length nodes → i < 2 → actionFrom (seatAction seats k i) ≡ actionOf (getD nodes k noNode .operator) i
+  pub slot : (k i : ℕ) → k < length nodes → i < 2 → seatSlot seats k i ≡ slotAt k (getD (inputsOf (getD nodes k noNode)) i 0)
+  pub first : listStart seats 0 0 ≡ 0
+  pub lists : (k i : ℕ) → k < length nodes → i < 2
+      → listEnd seats k i ≡ listStart seats k i + roomOf (mayWait (actionFrom (seatAction seats k i))) (placesAt places (seatSlot seats k i))
+  pub past : (k : ℕ) → length nodes < k → listStart seats k 0 ≡ 0
+  pub made-past : (k : ℕ) → length nodes < k → madeStart seats k ≡ 0
+  pub small : (k : ℕ) → k ≤ length nodes → listStart seats k 0 ≤ 34 * k
+  pub taken : Takers seats (length nodes) takers
+
+-- ---- all is seated: the n nodes, within these places
+pub record AllSeated (n : ℕ) (nodes : List Node) (places takers seats : List ℕ) : Type 0 where
+  pub count : length nodes ≡ n
+  pub seated : Seated nodes places takers seats
+  pub taken : Takers seats n takers
+  pub lists-small : (k : ℕ) → k ≤ n → listStart seats k 0 ≤ 34 * k
+  pub made-small : (k : ℕ) → k ≤ n → madeStart seats k ≤ 8 * k + 1
