@@ -159,7 +159,7 @@ extern "C" {
 /** The logger place of a blank timestamp; its tick is 0. */
 #define RATHUNXA_BLANK_LOGGER 255
 /** The stack bytes that rathunxa_work() may take. Measured and not proved: on
- *  x86-64 the deepest call took about 21,200. */
+ *  x86-64 the deepest call took about 21,400. */
 #define RATHUNXA_STACK 32768
 /** @} */
 
