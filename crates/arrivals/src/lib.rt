@@ -24,22 +24,16 @@ ghost use Rattle.emissions.specs.Emissions.{Emits, Emitting, InOutput, emittedA
 ghost use Rattle.arrivals.specs.Meetings.{actionFrom, candidatesOf, findingsOf, fullLimit, mayWait, restOf, waitsBy};
 ghost use Rattle.arrivals.specs.Views.{Meets, Spare};
 
-// What an arrival by an input does, by codes.
-pub struct Action {
-    pub code: u16,
-}
+// ---- what an arrival by an input does, by codes
 
-impl Action {
-    // It is passed on as a finding; it waits on its own side; it meets those of the other side that are before it; it meets all of the other side, and then
-    // waits on its own as the context says.
-    pub const PASS: u16 = 0;
-
-    pub const WAIT: u16 = 1;
-
-    pub const MEET: u16 = 2;
-
-    pub const MEET_AND_WAIT: u16 = 3;
-}
+// It is passed on as a finding.
+pub const PASS: u16 = 0;
+// It waits on its own side.
+pub const WAIT: u16 = 1;
+// It meets those of the other side that are before it.
+pub const MEET: u16 = 2;
+// It meets all of the other side, and then waits on its own as the context says.
+pub const MEET_AND_WAIT: u16 = 3;
 
 // ---- what is made
 
@@ -179,10 +173,10 @@ pub fn candidates_of(
         → Waits t (now (list .entry)) l → Stands t (now (o .entry)) x
         → marksOf r ≡ candidatesOf (actionFrom action) (t .clocks) l x) ⌝ }
 {
-    if action == Action::MEET {
+    if action == MEET {
         return contexts::before_arrival(list, o, ticks, globals);
     }
-    if action == Action::MEET_AND_WAIT {
+    if action == MEET_AND_WAIT {
         let waiting = waiting_lists::list_of(list);
         return contexts::all_waiting(waiting.len);
     }
@@ -244,20 +238,20 @@ pub fn meet(
 pub fn may_wait(action: u16) -> bool
     ensures { λ r. ⌜ r ≡ mayWait (actionFrom action) ⌝ }
 {
-    if action == Action::WAIT {
+    if action == WAIT {
         return true;
     }
-    action == Action::MEET_AND_WAIT
+    action == MEET_AND_WAIT
 }
 
 // Whether it then waits, where these were the candidates.
 pub fn waits(action: u16, context: u64, candidates: u64) -> bool
     ensures { λ r. ⌜ r ≡ waitsBy (actionFrom action) (rowOf context .afterwards) (marksOf candidates) ⌝ }
 {
-    if action == Action::WAIT {
+    if action == WAIT {
         return true;
     }
-    if action == Action::MEET_AND_WAIT {
+    if action == MEET_AND_WAIT {
         if waiting_lists::first_marked(candidates) == 16 {
             return true;
         }

@@ -3,14 +3,12 @@ use mathlib.Core.List.{List, map}
 use mathlib.Core.Path.{_≡_}
 use Prim.Native.Nat.{ℕ, _≤_}
 use lib.ListN.{length, take}
-use Rattle.plans.specs.declared.Node.{Node}
 use Rattle.plans.specs.Faults.{numberOf}
 use Rattle.plans.specs.Layout.{Plan, planClocks}
 use Rattle.plans.specs.declared.PlanRead.{PlanRead}
 use Rattle.plans.specs.Views.{answerOf, nodeOf}
 use Rattle.passages.specs.Views.{Noted, RisingByPlace, heldEvents}
 use Rattle.progress.specs.Progress.{numbersByPlace}
-use Rattle.progress.specs.Seats.{Enough, Seated, Takers, listStart, madeStart}
 use Rattle.detector.specs.Steps.{Ran}
 use Rattle.detector.specs.declared.Run.{Run}
 use Rattle.working.specs.declared.Answer.{Answer}
@@ -27,28 +25,8 @@ pub record PlanHeld (read : PlanRead) (loggers kinds : List ℕ) : Type 0 where
 abbrev pub WorkedUnder : (read : PlanRead) (loggers kinds : List ℕ) (nodes : List (List ℕ)) (passage out : List ℕ) (r : Answer) (out′ : List ℕ) → Type 0
 WorkedUnder read loggers kinds nodes passage out r out′ = Answers (planWorked (length out) passage (answerOf read loggers kinds nodes)) out r out′
 
--- ---- the run
-
--- the nodes are seated, with places enough for the passage's events: they want l places for their lists, and m for what is made
-pub record SeatedIn (nodes : List Node) (count : ℕ) (kinds places takers seats : List ℕ) (l m : ℕ) : Type 0 where
-  pub seated : Seated nodes places takers seats
-  pub taken : Takers seats (length nodes) takers
-  pub enough : Enough count kinds places
-  pub lists : listStart seats (length nodes) 0 ≡ l
-  pub made : madeStart seats (length nodes) ≡ m
-
--- some nodes are seated so
-abbrev pub SomeSeated : ℕ → (kinds takers seats : List ℕ) (l m : ℕ) → Type 0
-SomeSeated count kinds takers seats l m = (nodes : List Node) × (places : List ℕ) × SeatedIn nodes count kinds places takers seats l m
-
--- the run over the events that the code keeps is the one under every plan whose logger numbers these are, whose nodes are seated so, and by whose clocks the
--- events are noted
-abbrev pub RunsSeated : (numbers takers seats : List ℕ) (l m count : ℕ) (kinds loggers ticks globals out : List ℕ) (r : Run) (out′ : List ℕ) → Type 0
-RunsSeated numbers takers seats l m count kinds loggers ticks globals out r out′ =
-    (p : Plan) (places : List ℕ) → numbers ≡ numbersByPlace (p .loggers) → SeatedIn (p .nodes) count kinds places takers seats l m
-    → (let events = heldEvents count kinds loggers ticks in Noted (planClocks p) events count kinds loggers ticks globals → Ran p events out r out′)
-
--- likewise of every plan whose nodes are the first n rows
+-- the run over the events that the code keeps is the one under every plan whose logger numbers these are, whose nodes are the first n rows, and by whose clocks
+-- the events are noted
 abbrev pub RunsUnder : (numbers : List ℕ) (nodes : List (List ℕ)) (n count : ℕ) (kinds loggers ticks globals out : List ℕ) (r : Run) (out′ : List ℕ) → Type 0
 RunsUnder numbers nodes n count kinds loggers ticks globals out r out′ =
     (p : Plan) → numbers ≡ numbersByPlace (p .loggers) → p .nodes ≡ map nodeOf (take n nodes)

@@ -19,10 +19,10 @@ ghost use Rattle.passages.specs.Views.{Room};
 ghost use Rattle.emissions.specs.Emissions.{reached};
 ghost use Rattle.progress.specs.Progress.{Progress};
 ghost use Rattle.progress.specs.Seats.{Enough};
-ghost use Rattle.detector.specs.Steps.{Noticed, Says};
+ghost use Rattle.detector.specs.Steps.{Noticed, Runs, Says, SomeReady};
 ghost use Rattle.working.specs.Latest.{LatestWritten};
 ghost use Rattle.working.specs.Working.{Answers, FilesWorked, endOf, turnedBack};
-ghost use Rattle.gateway.specs.Steps.{PlanHeld, RunsSeated, RunsUnder, SomeSeated, WorkedUnder};
+ghost use Rattle.gateway.specs.Steps.{PlanHeld, RunsUnder, WorkedUnder};
 
 // A file is turned back: no finding, no byte.
 fn turned_back(number: u64, place: usize) -> Answer
@@ -79,7 +79,7 @@ fn fits(l: u16, lists: u16, m: u16, made: u16) -> bool
     m <= made
 }
 
-// The run over seated nodes, where 40 places for lists are enough and 17 for what is made.
+// The run over seated nodes, where 40 places for lists and 17 for what is made are enough; 10 and 9 are lent where those are.
 fn run_small(
     numbers: &LoggerNumbers,
     seats: &Seats,
@@ -93,9 +93,9 @@ fn run_small(
     globals: &[u64],
     output: &mut [u8],
 ) -> detector::Run
-    requires { ⌜ (l ≤ 40) × (m ≤ 17) × SomeSeated count (now kinds) (now takers) (now seats) l m
+    requires { ⌜ (l ≤ 40) × (m ≤ 17) × SomeReady count (now kinds) (now takers) (now seats) l m
         × Noticed count (now kinds) (now loggers) (now ticks) (now globals) ⌝ }
-    ensures { λ r. ⌜ RunsSeated (now (numbers .entry)) (now (takers .entry)) (now (seats .entry)) l m count (now (kinds .entry)) (now (loggers .entry))
+    ensures { λ r. ⌜ Runs (now (numbers .entry)) (now (takers .entry)) (now (seats .entry)) l m count (now (kinds .entry)) (now (loggers .entry))
         (now (ticks .entry)) (now (globals .entry)) (now (output .entry)) r (now (output .exit)) ⌝ }
 {
     if fits(l, 10, m, 9) {
@@ -132,8 +132,8 @@ fn run_small(
     )
 }
 
-// The same with up to 296 and 40.
-fn run_middle(
+// The same, where 296 and 40 are enough.
+fn run_half(
     numbers: &LoggerNumbers,
     seats: &Seats,
     takers: &SlotTakers,
@@ -146,28 +146,11 @@ fn run_middle(
     globals: &[u64],
     output: &mut [u8],
 ) -> detector::Run
-    requires { ⌜ (l ≤ 296) × (m ≤ 40) × SomeSeated count (now kinds) (now takers) (now seats) l m
+    requires { ⌜ (l ≤ 296) × (m ≤ 40) × SomeReady count (now kinds) (now takers) (now seats) l m
         × Noticed count (now kinds) (now loggers) (now ticks) (now globals) ⌝ }
-    ensures { λ r. ⌜ RunsSeated (now (numbers .entry)) (now (takers .entry)) (now (seats .entry)) l m count (now (kinds .entry)) (now (loggers .entry))
+    ensures { λ r. ⌜ Runs (now (numbers .entry)) (now (takers .entry)) (now (seats .entry)) l m count (now (kinds .entry)) (now (loggers .entry))
         (now (ticks .entry)) (now (globals .entry)) (now (output .entry)) r (now (output .exit)) ⌝ }
 {
-    if fits(l, 152, m, 40) {
-        let mut lists = [[0u64; 3]; 152];
-        let mut made = [[0u64; 3]; 40];
-        return detector::run_in(
-            numbers,
-            seats,
-            takers,
-            count,
-            kinds,
-            loggers,
-            ticks,
-            globals,
-            &mut lists,
-            &mut made,
-            output,
-        );
-    }
     let mut lists = [[0u64; 3]; 296];
     let mut made = [[0u64; 3]; 40];
     detector::run_in(
@@ -185,7 +168,7 @@ fn run_middle(
     )
 }
 
-// The same with up to 544 and 136, which are enough for 16 nodes.
+// The same, with 544 and 136, which are enough for 16 nodes; half of it is lent where that is.
 fn run_large(
     numbers: &LoggerNumbers,
     seats: &Seats,
@@ -199,13 +182,13 @@ fn run_large(
     globals: &[u64],
     output: &mut [u8],
 ) -> detector::Run
-    requires { ⌜ (l ≤ 544) × (m ≤ 136) × SomeSeated count (now kinds) (now takers) (now seats) l m
+    requires { ⌜ (l ≤ 544) × (m ≤ 136) × SomeReady count (now kinds) (now takers) (now seats) l m
         × Noticed count (now kinds) (now loggers) (now ticks) (now globals) ⌝ }
-    ensures { λ r. ⌜ RunsSeated (now (numbers .entry)) (now (takers .entry)) (now (seats .entry)) l m count (now (kinds .entry)) (now (loggers .entry))
+    ensures { λ r. ⌜ Runs (now (numbers .entry)) (now (takers .entry)) (now (seats .entry)) l m count (now (kinds .entry)) (now (loggers .entry))
         (now (ticks .entry)) (now (globals .entry)) (now (output .entry)) r (now (output .exit)) ⌝ }
 {
     if fits(l, 296, m, 40) {
-        return run_middle(
+        return run_half(
             numbers,
             seats,
             takers,
@@ -232,6 +215,57 @@ fn run_large(
         globals,
         &mut lists,
         &mut made,
+        output,
+    )
+}
+
+// The same; 152 and 40 are lent where those are enough.
+fn run_middle(
+    numbers: &LoggerNumbers,
+    seats: &Seats,
+    takers: &SlotTakers,
+    l: u16,
+    m: u16,
+    count: usize,
+    kinds: &Places,
+    loggers: &Places,
+    ticks: &[u64],
+    globals: &[u64],
+    output: &mut [u8],
+) -> detector::Run
+    requires { ⌜ (l ≤ 544) × (m ≤ 136) × SomeReady count (now kinds) (now takers) (now seats) l m
+        × Noticed count (now kinds) (now loggers) (now ticks) (now globals) ⌝ }
+    ensures { λ r. ⌜ Runs (now (numbers .entry)) (now (takers .entry)) (now (seats .entry)) l m count (now (kinds .entry)) (now (loggers .entry))
+        (now (ticks .entry)) (now (globals .entry)) (now (output .entry)) r (now (output .exit)) ⌝ }
+{
+    if fits(l, 152, m, 40) {
+        let mut lists = [[0u64; 3]; 152];
+        let mut made = [[0u64; 3]; 40];
+        return detector::run_in(
+            numbers,
+            seats,
+            takers,
+            count,
+            kinds,
+            loggers,
+            ticks,
+            globals,
+            &mut lists,
+            &mut made,
+            output,
+        );
+    }
+    run_large(
+        numbers,
+        seats,
+        takers,
+        l,
+        m,
+        count,
+        kinds,
+        loggers,
+        ticks,
+        globals,
         output,
     )
 }
@@ -275,7 +309,7 @@ fn run_in_rows(
             output,
         );
     }
-    run_large(
+    run_middle(
         numbers,
         &seats,
         &takers,

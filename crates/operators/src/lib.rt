@@ -1,6 +1,9 @@
 // The table of operators, and what it makes of the arrivals of an input at a node, until a limit ends the work. The node's waiting lists, a row for what it
 // makes and a tally are lent.
-use arrivals::Action;
+use arrivals::MEET;
+use arrivals::MEET_AND_WAIT;
+use arrivals::PASS;
+use arrivals::WAIT;
 use detections::LoggerNumbers;
 use emissions::Limit;
 use emissions::Made;
@@ -25,11 +28,11 @@ ghost use Rattle.operators.specs.Views.{AllOffered, Half, HoldsTurned, O
 // What an arrival by each input does, left first: operators 1 to 3.
 const OPERATORS: [[u16; 2]; 3] = [
     // OR
-    [Action::PASS, Action::PASS],
+    [PASS, PASS],
     // AND
-    [Action::MEET_AND_WAIT, Action::MEET_AND_WAIT],
+    [MEET_AND_WAIT, MEET_AND_WAIT],
     // SEQ
-    [Action::WAIT, Action::MEET],
+    [WAIT, MEET],
 ];
 
 // The place of an operator's row; any other number is read as SEQ.
@@ -113,7 +116,7 @@ fn act(
         (findingsIn (now (tally .exit))) (placeIn (now (tally .exit))) ⌝ }
 {
     let action = turn.action;
-    if action == Action::PASS {
+    if action == PASS {
         return emissions::emit_one(tally, made, turn.place, o, ticks, loggers, out);
     }
     let end = lists.len();
@@ -121,7 +124,7 @@ fn act(
     let own = part_of(is_left, turn.middle, end);
     let own_from = own.from;
     let own_to = own.to;
-    if action == Action::WAIT {
+    if action == WAIT {
         return arrivals::wait(&mut lists[own_from..own_to], o);
     }
     let other = part_of(!is_left, turn.middle, end);

@@ -13,9 +13,9 @@ use Rattle.plans.specs.Layout.{inputsOf}
 use Rattle.plans.specs.Limits.{noNode}
 use Rattle.arrivals.specs.Meetings.{actionFrom, mayWait}
 use Rattle.operators.specs.Table.{actionOf}
-use Rattle.progress.specs.Seats.{listEnd, listStart, placesAt, roomOf, seatAction, seatSlot, slotAt}
+use Rattle.progress.specs.Seats.{InputsSeated, listEnd, listStart, placesAt, roomOf, seatAction, seatSlot, slotAt}
 use Rattle.progress.proofs.Inputs.{slot-most}
-use Rattle.slots.specs.Steps.{Filling, InputsSeated, roomAt, startAt, total}
+use Rattle.slots.specs.Steps.{AllInputs, Filling, roomAt, startAt, total}
 use Rattle.slots.proofs.Rooms.{room-most, zeros, zeros-at}
 use Rattle.slots.proofs.Takers.{inputs-next, takers-all, takers-kept, takers-next, takers-start, takers-turn}
 
@@ -186,9 +186,11 @@ module _ (places : List ℕ) (nodes : List Node) where
     unfolding roomAt
     room-there j i in-n in-two = rw (does j i in-n in-two, looks j i in-n in-two)
 
-    pub filling-all : InputsSeated nodes places takers ended
-    filling-all =
-        record {
+    pub filling-all : AllInputs nodes places takers ended
+    filling-all = record { inputs = inputs; taken = rw (← all) (takers-kept seats ended takers n slot-same (takers-all (f .taken))) }
+      where
+        inputs : InputsSeated nodes places ended
+        inputs = record {
           few = omega arith;
           size = length-set seats (8 * n + 4) l ∙ f .size;
           action = λ j i in-n. does j i (omega arith);
@@ -197,6 +199,4 @@ module _ (places : List ℕ) (nodes : List Node) where
           lists = λ j i in-n in-two. omega (arith, ends j i (omega arith) in-two, start-next places nodes j i, starts j i in-two (omega arith), room-there j i (omega arith) in-two);
           past = λ j m. same (8 * j + 3 * 0 + 4) (λ e. omega arith) ∙ f .past j (8 * j + 3 * 0 + 4) (omega arith) (omega arith);
           made-past = λ j m. same (8 * j + 1) (λ e. omega arith) ∙ f .past j (8 * j + 1) (omega arith) (omega arith);
-          small = λ j m. omega (arith, starts j 0 (omega arith) (omega arith), start-most places nodes most j);
-          taken = rw (← all) (takers-kept seats ended takers n slot-same (takers-all (f .taken)));
         }

@@ -10,9 +10,9 @@ use Rattle.plans.specs.declared.Node.{Node}
 use Rattle.plans.specs.Layout.{inputsOf}
 use Rattle.plans.specs.Limits.{noNode}
 use Rattle.plans.specs.Views.{nodeOf}
-use Rattle.progress.specs.Seats.{Seated, madeRoom, madeStart, seatContext, slotAt}
+use Rattle.progress.specs.Seats.{InputsSeated, Seated, madeRoom, madeStart, seatContext, slotAt}
 use Rattle.progress.proofs.Inputs.{slot-most}
-use Rattle.slots.specs.Steps.{AllSeated, InputsSeated, total}
+use Rattle.slots.specs.Steps.{AllInputs, AllSeated, total}
 use Rattle.slots.proofs.Fillings.{total-most, total-next}
 use Rattle.slots.proofs.Rooms.{made-room-most}
 use Rattle.slots.proofs.Takers.{takers-kept}
@@ -49,7 +49,7 @@ module _ (nodes : List Node) (places takers seats : List ℕ) (k a v : ℕ) (lea
         | no h ↦ omega arith
       ]
 
-  pub inputs-kept : InputsSeated nodes places takers seats → InputsSeated nodes places takers (set seats a v)
+  inputs-kept : InputsSeated nodes places seats → InputsSeated nodes places after
   inputs-kept s =
       record {
         few = s .few;
@@ -66,7 +66,12 @@ module _ (nodes : List Node) (places takers seats : List ℕ) (k a v : ℕ) (lea
         ) (s .lists j i in-n in-two);
         past = λ j m. same 4 j 0 (omega arith) (omega arith) (omega arith) ∙ s .past j m;
         made-past = λ j m. getD-set-other seats a (8 * j + 1) v 0 (λ e. omega arith) ∙ s .made-past j m;
-        small = λ j m. omega (arith, same 4 j 0 (omega arith) (omega arith) (omega arith), s .small j m);
+      }
+
+  pub all-kept : AllInputs nodes places takers seats → AllInputs nodes places takers (set seats a v)
+  all-kept s =
+      record {
+        inputs = inputs-kept (s .inputs);
         taken = takers-kept seats after takers (length nodes) (λ j i in-n in-two. same 3 j i (omega arith) (omega arith) in-two) (s .taken);
       }
 
@@ -98,7 +103,7 @@ pub record Making (nodes : List Node) (takers first seats : List ℕ) (k m : ℕ
   pub context : (j : ℕ) → j < k → seatContext seats j ≡ getD nodes j noNode .context
   pub starts : (j : ℕ) → j < k → madeStart seats j ≡ madeAt takers j
   pub next : m ≡ madeAt takers k
-  pub inputs : (places : List ℕ) → InputsSeated nodes places takers first → InputsSeated nodes places takers seats
+  pub inputs : (places : List ℕ) → AllInputs nodes places takers first → AllInputs nodes places takers seats
 
 module _ (nodes : List Node) (takers first : List ℕ) where
   pub making-start : length first ≡ 136 → Making nodes takers first first 0 1
@@ -118,8 +123,8 @@ module _ (nodes : List Node) (takers first : List ℕ) where
           starts = made-written takers mid k m (length-set seats (8 * k) v ∙ f .size) (omega arith) (f .next)
               (λ j h. getD-set-other seats (8 * k) (8 * j + 1) v 0 (λ e. omega arith) ∙ f .starts j h);
           next = omega (arith, f .next, made-next takers k);
-          inputs = λ places s. inputs-kept nodes places takers mid k (8 * k + 1) m (omega arith) (omega arith) (omega arith)
-              (inputs-kept nodes places takers seats k (8 * k) v (omega arith) (omega arith) (omega arith) (f .inputs places s));
+          inputs = λ places s. all-kept nodes places takers mid k (8 * k + 1) m (omega arith) (omega arith) (omega arith)
+              (all-kept nodes places takers seats k (8 * k) v (omega arith) (omega arith) (omega arith) (f .inputs places s));
         }
       where
         mid : List ℕ
@@ -131,19 +136,12 @@ module _ (nodes : List Node) (takers first : List ℕ) where
           | no d ↦ getD-set-other seats (8 * k) (8 * j) v 0 (λ e. d (omega arith)) ∙ f .context j (omega arith)
         ]
 
-    pub making-all : length nodes ≤ 16 → k ≡ length nodes → (places : List ℕ) → InputsSeated nodes places takers first
+    pub making-all : length nodes ≤ 16 → k ≡ length nodes → (places : List ℕ) → AllInputs nodes places takers first
         → AllSeated k nodes places takers (set seats (8 * k + 1) m)
-    making-all few all places s =
-        record {
-          count = sym all;
-          seated = seated;
-          taken = rw (← all) at (kept .taken);
-          lists-small = λ j h. kept .small j (omega arith);
-          made-small = λ j h. omega (arith, starts j (omega arith), made-most takers j);
-        }
+    making-all few all places s = record { count = sym all; seated = seated; taken = kept .taken }
       where
-        kept : InputsSeated nodes places takers (set seats (8 * k + 1) m)
-        kept = inputs-kept nodes places takers seats k (8 * k + 1) m (omega arith) (omega arith) (omega arith) (f .inputs places s)
+        kept : AllInputs nodes places takers (set seats (8 * k + 1) m)
+        kept = all-kept nodes places takers seats k (8 * k + 1) m (omega arith) (omega arith) (omega arith) (f .inputs places s)
 
         starts : (j : ℕ) → j < k + 1 → madeStart (set seats (8 * k + 1) m) j ≡ madeAt takers j
         starts = made-written takers seats k m (f .size) (omega arith) (f .next) (f .starts)
@@ -151,15 +149,8 @@ module _ (nodes : List Node) (takers first : List ℕ) where
         seated : Seated nodes places takers (set seats (8 * k + 1) m)
         seated =
             record {
-              few = few;
-              size = kept .size;
+              inputs = kept .inputs;
               context = λ j h. getD-set-other seats (8 * k + 1) (8 * j) m 0 (λ e. omega arith) ∙ f .context j (omega arith);
-              action = kept .action;
-              slot = kept .slot;
-              first = kept .first;
-              lists = kept .lists;
-              past = kept .past;
               made-first = starts 0 (omega arith) ∙ made-first-at takers;
               made = λ j h. starts (j + 1) (omega arith) ∙ made-next takers j ∙ ap (λ (x : ℕ). x + madeRoom (getD takers (34 + j) 0)) (sym (starts j (omega arith)));
-              made-past = kept .made-past;
             }

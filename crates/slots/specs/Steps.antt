@@ -10,7 +10,7 @@ use Rattle.plans.specs.Layout.{inputsOf}
 use Rattle.plans.specs.Limits.{noNode}
 use Rattle.arrivals.specs.Meetings.{actionFrom, mayWait}
 use Rattle.operators.specs.Table.{actionOf}
-use Rattle.progress.specs.Seats.{Seated, Takers, listEnd, listStart, madeStart, placesAt, roomOf, seatAction, seatSlot, slotAt}
+use Rattle.progress.specs.Seats.{InputsSeated, Seated, Takers, listStart, placesAt, roomOf, seatAction, seatSlot, slotAt}
 
 -- ---- where the lists begin
 -- the sum of the first n values
@@ -47,23 +47,12 @@ pub record Filling (places : List ℕ) (nodes : List Node) (k i : ℕ) (seats ta
   pub taken : TakersTo seats k i takers
 
 -- ---- the inputs of all nodes are seated
-pub record InputsSeated (nodes : List Node) (places takers seats : List ℕ) : Type 0 where
-  pub few : length nodes ≤ 16
-  pub size : length seats ≡ 136
-  pub action : (k i : ℕ) → k < length nodes → i < 2 → actionFrom (seatAction seats k i) ≡ actionOf (getD nodes k noNode .operator) i
-  pub slot : (k i : ℕ) → k < length nodes → i < 2 → seatSlot seats k i ≡ slotAt k (getD (inputsOf (getD nodes k noNode)) i 0)
-  pub first : listStart seats 0 0 ≡ 0
-  pub lists : (k i : ℕ) → k < length nodes → i < 2
-      → listEnd seats k i ≡ listStart seats k i + roomOf (mayWait (actionFrom (seatAction seats k i))) (placesAt places (seatSlot seats k i))
-  pub past : (k : ℕ) → length nodes < k → listStart seats k 0 ≡ 0
-  pub made-past : (k : ℕ) → length nodes < k → madeStart seats k ≡ 0
-  pub small : (k : ℕ) → k ≤ length nodes → listStart seats k 0 ≤ 34 * k
+pub record AllInputs (nodes : List Node) (places takers seats : List ℕ) : Type 0 where
+  pub inputs : InputsSeated nodes places seats
   pub taken : Takers seats (length nodes) takers
 
--- ---- all is seated: the n nodes, within these places
+-- ---- all is seated: the n nodes
 pub record AllSeated (n : ℕ) (nodes : List Node) (places takers seats : List ℕ) : Type 0 where
   pub count : length nodes ≡ n
   pub seated : Seated nodes places takers seats
-  pub taken : Takers seats n takers
-  pub lists-small : (k : ℕ) → k ≤ n → listStart seats k 0 ≤ 34 * k
-  pub made-small : (k : ℕ) → k ≤ n → madeStart seats k ≤ 8 * k + 1
+  pub taken : Takers seats (length nodes) takers

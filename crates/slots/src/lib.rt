@@ -13,7 +13,7 @@ ghost use Rattle.plans.specs.Limits.{noNode};
 ghost use Rattle.plans.specs.Views.{nodeOf};
 ghost use Rattle.arrivals.specs.Meetings.{actionFrom, mayWait};
 ghost use Rattle.progress.specs.Seats.{Enough, dueAfter, madeRoom, placesAt, roomOf, slotAt};
-ghost use Rattle.slots.specs.Steps.{AllSeated, Filling, InputsSeated};
+ghost use Rattle.slots.specs.Steps.{AllInputs, AllSeated, Filling};
 
 // For each node eight numbers: its context; where what it makes begins; and for each input what an arrival does, its slot, and where those that wait begin.
 // After the last node stands where both end.
@@ -150,7 +150,7 @@ pub fn seat_nodes(
     takers: &mut SlotTakers,
 )
     requires { ⌜ (n ≤ 16) × ((q : ℕ) → getD (now places) q 0 ≤ 16) × (now seats ≡ replicate 136 0) × (now takers ≡ replicate 50 0) ⌝ }
-    ensures { λ _. ⌜ InputsSeated (map nodeOf (take n (now (nodes .entry)))) (now (places .entry)) (now (takers .exit)) (now (seats .exit)) ⌝ }
+    ensures { λ _. ⌜ AllInputs (map nodeOf (take n (now (nodes .entry)))) (now (places .entry)) (now (takers .exit)) (now (seats .exit)) ⌝ }
 {
     // The array as a slice is what tells the proof its length.
     let rows = nodes[..].len();
@@ -166,7 +166,7 @@ pub fn seat_nodes(
 // The rest of each seat: the context, and where what the node makes begins. The event itself stands in front of all that is made.
 pub fn seat_made(nodes: &Nodes, n: usize, takers: &SlotTakers, seats: &mut Seats)
     requires { ⌜ (n ≤ 16) × (length (now seats) ≡ 136) ⌝ }
-    ensures { λ _. ⌜ ((places : List ℕ) → InputsSeated (map nodeOf (take n (now (nodes .entry)))) places (now (takers .entry)) (now (seats .entry))
+    ensures { λ _. ⌜ ((places : List ℕ) → AllInputs (map nodeOf (take n (now (nodes .entry)))) places (now (takers .entry)) (now (seats .entry))
         → AllSeated n (map nodeOf (take n (now (nodes .entry)))) places (now (takers .entry)) (now (seats .exit))) ⌝ }
 {
     // The array as a slice is what tells the proof its length.

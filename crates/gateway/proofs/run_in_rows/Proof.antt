@@ -1,6 +1,6 @@
 -- The nodes are seated, with as many places as these want.
 use mathlib.Core.Path.{refl}
-use Rattle.gateway.proofs.Seats.{lists-most, made-most, seated-in, seated-rows}
+use Rattle.gateway.proofs.Seats.{most, ready, ready-rows}
 use borrow.Author.Needs.{needs}
 use Rattle.gateway.proofs.run_in_rows.Statement.{statement}
 use Rattle.gateway.proofs.run_in_rows.Tie as tie
@@ -8,7 +8,7 @@ use Rattle.gateway.proofs.run_in_rows.Reads as reads
 use Rattle.gateway.proofs.run_in_rows.Lts as lts
 use Rattle.gateway.proofs.fits.Reads as fits-reads
 use Rattle.gateway.proofs.places_for.Reads as places-for-reads
-use Rattle.gateway.proofs.run_large.Reads as run-large-reads
+use Rattle.gateway.proofs.run_middle.Reads as run-middle-reads
 use Rattle.gateway.proofs.run_small.Reads as run-small-reads
 use Rattle.slots.proofs.seat_made.Reads as seat-made-reads
 use Rattle.slots.proofs.seat_nodes.Reads as seat-nodes-reads
@@ -57,7 +57,7 @@ run-small-requires c κs =
     let q = p .before .before .before .before .before .before .before .places-for in
     let all = p .seat-made .ensures (q .result) (p .before .before .before .seat-nodes .ensures) in
     let enough = yes .before .fits2 .ensures (yes .if1 .taken) in
-    (enough .0, enough .1, (_, q .result, seated-in _ _ _ _ _ all _ _ refl refl _ _ (q .ensures)), s .pre .1)
+    (enough .0, enough .1, (_, q .result, ready _ _ _ _ _ all _ _ refl refl _ _ (q .ensures)), s .pre .1)
 
 same-length : tie.Need-same-length
 same-length c = search needs
@@ -69,19 +69,16 @@ returns c =
     let s = p .before .before .before .before .before .before .before .before .before .before .before in
     let q = p .before .before .before .before .before .before .before .places-for in
     let all = p .seat-made .ensures (q .result) (p .before .before .before .seat-nodes .ensures) in
-    λ plan same rows. ran .run-small .ensures plan (q .result) same (seated-rows _ _ _ _ _ all _ _ refl refl _ _ (q .ensures) _ rows)
+    λ plan same rows. ran .run-small .ensures plan (q .result) same (ready-rows _ _ _ _ _ all _ _ refl refl _ _ (q .ensures) _ rows)
 
-run-large-requires : tie.Need-run-large-requires
-run-large-requires c κs =
+run-middle-requires : tie.Need-run-middle-requires
+run-middle-requires c κs =
     let p = c .before .before .before .before .before in
     let s = p .before .before .before .before .before .before .before .before .before .before .before in
     let q = p .before .before .before .before .before .before .before .places-for in
-    let all = p .seat-made .ensures (q .result) (p .before .before .before .seat-nodes .ensures) in (
-      lists-most _ _ _ _ _ all _ _ refl refl (s .pre .0),
-      made-most _ _ _ _ _ all _ _ refl refl (s .pre .0),
-      (_, q .result, seated-in _ _ _ _ _ all _ _ refl refl _ _ (q .ensures)),
-      s .pre .1,
-    )
+    let all = p .seat-made .ensures (q .result) (p .before .before .before .seat-nodes .ensures) in
+    let enough = most _ _ _ _ _ all _ _ refl refl _ _ (q .ensures) in
+    (enough .0, enough .1, (_, q .result, ready _ _ _ _ _ all _ _ refl refl _ _ (q .ensures)), s .pre .1)
 
 same-length-2 : tie.Need-same-length-2
 same-length-2 c = search needs
@@ -93,7 +90,7 @@ returns-2 c =
     let s = p .before .before .before .before .before .before .before .before .before .before .before in
     let q = p .before .before .before .before .before .before .before .places-for in
     let all = p .seat-made .ensures (q .result) (p .before .before .before .seat-nodes .ensures) in
-    λ plan same rows. ran .run-large .ensures plan (q .result) same (seated-rows _ _ _ _ _ all _ _ refl refl _ _ (q .ensures) _ rows)
+    λ plan same rows. ran .run-middle .ensures plan (q .result) same (ready-rows _ _ _ _ _ all _ _ refl refl _ _ (q .ensures) _ rows)
 
 pub run-in-rows-spec : {M : Type 1} → statement M
 run-in-rows-spec =
@@ -114,6 +111,6 @@ run-in-rows-spec =
     run-small-requires
     same-length
     returns
-    run-large-requires
+    run-middle-requires
     same-length-2
     returns-2)

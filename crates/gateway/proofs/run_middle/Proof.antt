@@ -1,6 +1,6 @@
--- Both sizes are enough.
-use mathlib.Core.Path.{refl}
-use Rattle.gateway.proofs.Seats.{ready}
+-- What is lent is enough where `fits` says so.
+use Rattle.detector.proofs.Running.{ready-in}
+use Rattle.gateway.proofs.Seats.{clear}
 use borrow.Author.Needs.{needs}
 use Rattle.gateway.proofs.run_middle.Statement.{statement}
 use Rattle.gateway.proofs.run_middle.Tie as tie
@@ -8,6 +8,7 @@ use Rattle.gateway.proofs.run_middle.Reads as reads
 use Rattle.gateway.proofs.run_middle.Lts as lts
 use Rattle.detector.proofs.run_in.Reads as run-in-reads
 use Rattle.gateway.proofs.fits.Reads as fits-reads
+use Rattle.gateway.proofs.run_large.Reads as run-large-reads
 
 fits-requires : tie.Need-fits-requires
 fits-requires c κs = search needs
@@ -23,7 +24,7 @@ run-in-requires c κs =
     let yes = c .before .before .before in
     let s = yes .before .before .before .before .before in
     let enough = yes .before .fits2 .ensures (yes .if1 .taken) in
-    ((s .pre .2 .0, s .pre .2 .1, ready _ _ (enough .0) (enough .1) (s .pre .2 .2)), refl, s .pre .3)
+    ((s .pre .2 .0, s .pre .2 .1, ready-in (s .pre .2 .2) 152 40 (enough .0) (enough .1)), clear 152, s .pre .3)
 
 same-length : tie.Need-same-length
 same-length c = search needs
@@ -33,26 +34,16 @@ returns c =
     let ran = c .before .before .before .before in
     let yes = ran .before .before .before .before in
     let enough = yes .before .fits2 .ensures (yes .if1 .taken) in
-    λ p places same seated. ran .run-in .ensures p places same (ready _ _ (enough .0) (enough .1) seated)
+    λ p places same seated. ran .run-in .ensures p places same (ready-in seated 152 40 (enough .0) (enough .1))
 
-slice-aggregate-run-in-3 : tie.Need-slice-aggregate-run-in-3
-slice-aggregate-run-in-3 c = search needs
-
-slice-aggregate-run-in-4 : tie.Need-slice-aggregate-run-in-4
-slice-aggregate-run-in-4 c = search needs
-
-run-in-requires-2 : tie.Need-run-in-requires-2
-run-in-requires-2 c κs =
-    let s = c .before .before .before .before .before .before .before .before in ((s .pre .2 .0, s .pre .2 .1, ready _ _ (s .pre .0) (s .pre .1) (s .pre .2 .2)), refl, s .pre .3)
+run-large-requires : tie.Need-run-large-requires
+run-large-requires c κs = search needs
 
 same-length-2 : tie.Need-same-length-2
 same-length-2 c = search needs
 
 returns-2 : tie.Need-returns-2
-returns-2 c =
-    let ran = c .before .before .before .before in
-    let s = ran .before .before .before .before .before .before .before .before .before in
-    λ p places same seated. ran .run-in2 .ensures p places same (ready _ _ (s .pre .0) (s .pre .1) seated)
+returns-2 c = search needs
 
 pub run-middle-spec : {M : Type 1} → statement M
 run-middle-spec =
@@ -64,8 +55,6 @@ run-middle-spec =
     run-in-requires
     same-length
     returns
-    slice-aggregate-run-in-3
-    slice-aggregate-run-in-4
-    run-in-requires-2
+    run-large-requires
     same-length-2
     returns-2)

@@ -1,6 +1,6 @@
 -- Both sizes are enough.
-use mathlib.Core.Path.{refl}
-use Rattle.gateway.proofs.Seats.{ready}
+use Rattle.detector.proofs.Running.{ready-in}
+use Rattle.gateway.proofs.Seats.{clear}
 use borrow.Author.Needs.{needs}
 use Rattle.gateway.proofs.run_small.Statement.{statement}
 use Rattle.gateway.proofs.run_small.Tie as tie
@@ -23,7 +23,7 @@ run-in-requires c κs =
     let yes = c .before .before .before in
     let s = yes .before .before .before .before .before in
     let enough = yes .before .fits2 .ensures (yes .if1 .taken) in
-    ((s .pre .2 .0, s .pre .2 .1, ready _ _ (enough .0) (enough .1) (s .pre .2 .2)), refl, s .pre .3)
+    ((s .pre .2 .0, s .pre .2 .1, ready-in (s .pre .2 .2) 10 9 (enough .0) (enough .1)), clear 10, s .pre .3)
 
 same-length : tie.Need-same-length
 same-length c = search needs
@@ -33,7 +33,7 @@ returns c =
     let ran = c .before .before .before .before in
     let yes = ran .before .before .before .before in
     let enough = yes .before .fits2 .ensures (yes .if1 .taken) in
-    λ p places same seated. ran .run-in .ensures p places same (ready _ _ (enough .0) (enough .1) seated)
+    λ p places same seated. ran .run-in .ensures p places same (ready-in seated 10 9 (enough .0) (enough .1))
 
 slice-aggregate-run-in-3 : tie.Need-slice-aggregate-run-in-3
 slice-aggregate-run-in-3 c = search needs
@@ -43,7 +43,7 @@ slice-aggregate-run-in-4 c = search needs
 
 run-in-requires-2 : tie.Need-run-in-requires-2
 run-in-requires-2 c κs =
-    let s = c .before .before .before .before .before .before .before .before in ((s .pre .2 .0, s .pre .2 .1, ready _ _ (s .pre .0) (s .pre .1) (s .pre .2 .2)), refl, s .pre .3)
+    let s = c .before .before .before .before .before .before .before .before in ((s .pre .2 .0, s .pre .2 .1, ready-in (s .pre .2 .2) 40 17 (s .pre .0) (s .pre .1)), clear 40, s .pre .3)
 
 same-length-2 : tie.Need-same-length-2
 same-length-2 c = search needs
@@ -52,7 +52,7 @@ returns-2 : tie.Need-returns-2
 returns-2 c =
     let ran = c .before .before .before .before in
     let s = ran .before .before .before .before .before .before .before .before .before in
-    λ p places same seated. ran .run-in2 .ensures p places same (ready _ _ (s .pre .0) (s .pre .1) seated)
+    λ p places same seated. ran .run-in2 .ensures p places same (ready-in seated 40 17 (s .pre .0) (s .pre .1))
 
 pub run-small-spec : {M : Type 1} → statement M
 run-small-spec =
