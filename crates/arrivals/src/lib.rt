@@ -20,7 +20,7 @@ ghost use Rattle.waiting_lists.specs.Marks.{marksOf};
 ghost use Rattle.waiting_lists.specs.Waiting.{appendedTo};
 ghost use Rattle.contexts.specs.Made.{madeOf};
 ghost use Rattle.contexts.specs.Table.{rowOf, together};
-ghost use Rattle.emissions.specs.Emissions.{Emits, Emitting, InOutput, emittedAll, findingsIn, placeIn, reached};
+ghost use Rattle.emissions.specs.Emissions.{Emits, Emitting, InOutput, bytesIn, emittedAll, findingsIn, reached};
 ghost use Rattle.arrivals.specs.Meetings.{actionFrom, candidatesOf, findingsOf, fullLimit, mayWait, restOf, waitsBy};
 ghost use Rattle.arrivals.specs.Views.{Meets, Spare};
 
@@ -55,8 +55,8 @@ fn emit_each(
         → Waits t (now (list .entry)) l → Emits t Limit.None (now (tally .entry)) (now (made .entry)) (now (out .entry)) s → Stands t (now (o .entry)) x
         → Emits t r (now (tally .exit)) (now (made .exit)) (now (out .exit))
         (emittedAll (length (now (out .entry))) (now (loggers .entry)) place s (map (λ w. combinedOf (t .clocks) w x) (marked l (marksOf taken))))) ⌝ }
-    ensures beyond { λ _. ⌜ Beyond (now (out .entry)) (now (out .exit)) (placeIn (now (tally .entry)))
-        (findingsIn (now (tally .exit))) (placeIn (now (tally .exit))) ⌝ }
+    ensures beyond { λ _. ⌜ Beyond (now (out .entry)) (now (out .exit)) (bytesIn (now (tally .entry)))
+        (findingsIn (now (tally .exit))) (bytesIn (now (tally .exit))) ⌝ }
 {
     let waiting = waiting_lists::list_of(list);
     let n = waiting.len;
@@ -94,8 +94,8 @@ fn emit_together(
         → Waits t (now (list .entry)) l → Emits t Limit.None (now (tally .entry)) (now (made .entry)) (now (out .entry)) s → Stands t (now (o .entry)) x
         → Emits t r (now (tally .exit)) (now (made .exit)) (now (out .exit))
         (emittedAll (length (now (out .entry))) (now (loggers .entry)) place s (madeOf together (t .clocks) (marked l (marksOf taken)) x))) ⌝ }
-    ensures beyond { λ _. ⌜ Beyond (now (out .entry)) (now (out .exit)) (placeIn (now (tally .entry)))
-        (findingsIn (now (tally .exit))) (placeIn (now (tally .exit))) ⌝ }
+    ensures beyond { λ _. ⌜ Beyond (now (out .entry)) (now (out .exit)) (bytesIn (now (tally .entry)))
+        (findingsIn (now (tally .exit))) (bytesIn (now (tally .exit))) ⌝ }
 {
     let first = waiting_lists::first_marked(taken);
     let waiting = waiting_lists::list_of(list);
@@ -126,8 +126,8 @@ fn emit_made(
         → Waits t (now (list .entry)) l → Emits t Limit.None (now (tally .entry)) (now (made .entry)) (now (out .entry)) s → Stands t (now (o .entry)) x
         → Emits t r (now (tally .exit)) (now (made .exit)) (now (out .exit))
         (emittedAll (length (now (out .entry))) (now (loggers .entry)) place s (madeOf (rowOf context .finds) (t .clocks) (marked l (marksOf taken)) x))) ⌝ }
-    ensures beyond { λ _. ⌜ Beyond (now (out .entry)) (now (out .exit)) (placeIn (now (tally .entry)))
-        (findingsIn (now (tally .exit))) (placeIn (now (tally .exit))) ⌝ }
+    ensures beyond { λ _. ⌜ Beyond (now (out .entry)) (now (out .exit)) (bytesIn (now (tally .entry)))
+        (findingsIn (now (tally .exit))) (bytesIn (now (tally .exit))) ⌝ }
 {
     if contexts::makes_each(context) {
         emit_each(
@@ -203,8 +203,8 @@ pub fn meet(
         → (let f = emittedAll (length (now (out .entry))) (now (loggers .entry)) place s (findingsOf (rowOf context) (t .clocks) l (marksOf candidates) x) in
         Emits t r (now (tally .exit)) (now (made .exit)) (now (out .exit)) f
         × Waits t (now (list .exit)) (pick (reached (f .limit)) l (restOf (rowOf context) (t .clocks) l (marksOf candidates))))) ⌝ }
-    ensures beyond { λ _. ⌜ Beyond (now (out .entry)) (now (out .exit)) (placeIn (now (tally .entry)))
-        (findingsIn (now (tally .exit))) (placeIn (now (tally .exit))) ⌝ }
+    ensures beyond { λ _. ⌜ Beyond (now (out .entry)) (now (out .exit)) (bytesIn (now (tally .entry)))
+        (findingsIn (now (tally .exit))) (bytesIn (now (tally .exit))) ⌝ }
 {
     if waiting_lists::first_marked(candidates) == 16 {
         return Limit::None;

@@ -26,26 +26,26 @@ use Rattle.timestamps.specs.Order.{Clocks, before, clearlyEarlier, concurrent, 
 use Rattle.timestamps.proofs.Composite.{same-stamp}
 use Rattle.open_calls.specs.Notes.{localNote, noteAt}
 use Rattle.comparisons.specs.declared.Gathering.{Gathering}
-use Rattle.comparisons.specs.declared.Meeting.{Meeting}
+use Rattle.comparisons.specs.declared.Around.{Around}
 use Rattle.comparisons.specs.declared.Span.{Span}
-use Rattle.comparisons.specs.Notes.{NotedList, allRelated, meetingOf, noLowest, notedAt, relatedAt, relatedBy, relatedNotes, tickOf}
+use Rattle.comparisons.specs.Notes.{NotedList, allRelated, aroundOf, noLowest, notedAt, relatedAt, relatedBy, relatedNotes, tickOf}
 use Rattle.comparisons.proofs.Notes.{met-earlier, met-later}
 
 -- ---- as the code tells it
 module _ (a : Span) (own : ℕ) (t : LocalTick) (g : GlobalTick) (e l : Bool) (p : e ≡ clearlyEarlier (a .lowest) g) (q : l ≡ clearlyEarlier g (a .highest)) where
-  pub meeting-none : own ≡ 0 → _≡_ {A = Meeting} (record { earlier = e; later = l }) (meetingOf a own t g)
-  unfolding meetingOf
-  meeting-none z = rw (le-ltb 0 own (omega arith), p, q) (λ i. record {
+  pub around-none : own ≡ 0 → _≡_ {A = Around} (record { earlier = e; later = l }) (aroundOf a own t g)
+  unfolding aroundOf
+  around-none z = rw (le-ltb 0 own (omega arith), p, q) (λ i. record {
     earlier = sym (or-false (clearlyEarlier (a .lowest) g)) i;
     later = sym (or-false (clearlyEarlier g (a .highest))) i;
   })
 
-  pub meeting-own : (x y b c : Bool) → (own ≡ 0 → ⊥) → x ≡ ltb (own - 1) (t .0) → b ≡ (e || x) → y ≡ ltb (t .0) (own - 1) → c ≡ (l || y)
-      → _≡_ {A = Meeting} (record { earlier = b; later = c }) (meetingOf a own t g)
-  unfolding meetingOf
-  meeting-own x y b c z f h j k = rw (lt-ltb 0 own (omega (arith, z)), h, k, f, j, p, q)
+  pub around-own : (x y b c : Bool) → (own ≡ 0 → ⊥) → x ≡ ltb (own - 1) (t .0) → b ≡ (e || x) → y ≡ ltb (t .0) (own - 1) → c ≡ (l || y)
+      → _≡_ {A = Around} (record { earlier = b; later = c }) (aroundOf a own t g)
+  unfolding aroundOf
+  around-own x y b c z f h j k = rw (lt-ltb 0 own (omega (arith, z)), h, k, f, j, p, q)
 
-pub related-told : (a : Span) (own note g : ℕ) (r : Relation) (m : Meeting) (n b c w : Bool) → (note ≡ 0 → ⊥) → m ≡ meetingOf a own (tickOf note) (record { 0 = g })
+pub related-told : (a : Span) (own note g : ℕ) (r : Relation) (m : Around) (n b c w : Bool) → (note ≡ 0 → ⊥) → m ≡ aroundOf a own (tickOf note) (record { 0 = g })
     → n ≡ (not (m .earlier) && not (m .later)) → b ≡ (r .before && m .earlier) → c ≡ (r .concurrent && n) → w ≡ (r .«weakly_before» && not (m .later))
     → _≡_ {A = Relation} (record { before = b; concurrent = c; «weakly_before» = w }) (relatedAt a own note g r)
 unfolding relatedAt
@@ -73,10 +73,10 @@ module _ (a : Span) (first second : List ℕ) where
 
 -- ---- all the places
 -- where a place is passed over, nothing changes
-abbrev oneMore : Bool → Relation → Meeting → Relation
+abbrev oneMore : Bool → Relation → Around → Relation
 oneMore skipped r m = pick skipped r (relatedBy r m)
 
-one-more : (p : Bool) (r : Relation) (m : Meeting) (x y z : Bool) → _≡_ {A = Relation}
+one-more : (p : Bool) (r : Relation) (m : Around) (x y z : Bool) → _≡_ {A = Relation}
     (record { before = oneMore p r m .before && x; concurrent = oneMore p r m .concurrent && y; «weakly_before» = oneMore p r m .«weakly_before» && z })
     (record {
       before = r .before && ((p || m .earlier) && x);
@@ -94,7 +94,7 @@ one-more false r m x y z = λ i. record {
     and-thrice true y z = refl
     and-thrice false y z = refl
 
-module _ (skip : ℕ → Bool) (m : ℕ → Meeting) where
+module _ (skip : ℕ → Bool) (m : ℕ → Around) where
   fold-related : (ks : List ℕ) (r : Relation) → fold (λ q k. oneMore (skip k) q (m k)) ks r ≡ record {
     before = r .before && eachPasses (λ k. skip k || m k .earlier) ks;
     concurrent = r .concurrent && eachPasses (λ k. skip k || (not (m k .earlier) && not (m k .later))) ks;
@@ -136,8 +136,8 @@ module _ (clocks : Clocks) (a b : List Timestamp) (first second : Gathering) (n 
   abbrev skip : ℕ → Bool
   skip k = eqb (noteAt (second .notes) k) 0
 
-  abbrev meeting : ℕ → Meeting
-  meeting k = meetingOf (first .span) (noteAt (first .notes) k) (tickOf (noteAt (second .notes) k)) (record { 0 = noteAt (second .notes) (k + 8) })
+  abbrev around : ℕ → Around
+  around k = aroundOf (first .span) (noteAt (first .notes) k) (tickOf (noteAt (second .notes) k)) (record { 0 = noteAt (second .notes) (k + 8) })
 
   abbrev stamp : ℕ → Timestamp
   stamp k = notedAt (second .notes) k
@@ -148,8 +148,8 @@ module _ (clocks : Clocks) (a b : List Timestamp) (first second : Gathering) (n 
   abbrev hasLater : Timestamp → Bool
   hasLater t = somePasses (before clocks t) a
 
-  met : (k : ℕ) → k < 8 → (noteAt (second .notes) k ≡ 0 → ⊥) → (hasEarlier (stamp k) ≡ meeting k .earlier) × (hasLater (stamp k) ≡ meeting k .later)
-  unfolding meetingOf clearlyEarlier
+  met : (k : ℕ) → k < 8 → (noteAt (second .notes) k ≡ 0 → ⊥) → (hasEarlier (stamp k) ≡ around k .earlier) × (hasLater (stamp k) ≡ around k .later)
+  unfolding aroundOf clearlyEarlier
   met k m z =
       let i : stamp k isIn b = o .held k m (omega (arith, z)) in
       let f : noteAt (second .notes) (k + 8) ≡ globalOf clocks (stamp k) .0 = o .each (stamp k) i .global in
@@ -157,8 +157,8 @@ module _ (clocks : Clocks) (a b : List Timestamp) (first second : Gathering) (n 
       (rw f (met-earlier clocks a first n (stamp k) x m), rw f (met-later clocks a first n (stamp k) x m))
 
   -- the test p of a timestamp is the test q of how the first list meets it
-  places : (p : Timestamp → Bool) (q : Meeting → Bool) → ((k : ℕ) → k < 8 → (noteAt (second .notes) k ≡ 0 → ⊥) → p (stamp k) ≡ q (meeting k))
-      → eachPasses p b ≡ eachPasses (λ k. skip k || q (meeting k)) loggerPlaces
+  places : (p : Timestamp → Bool) (q : Around → Bool) → ((k : ℕ) → k < 8 → (noteAt (second .notes) k ≡ 0 → ⊥) → p (stamp k) ≡ q (around k))
+      → eachPasses p b ≡ eachPasses (λ k. skip k || q (around k)) loggerPlaces
   places p q f = all-noted clocks b second o p ∙ all-same _ _ loggerPlaces (λ k i. elim (ℕ-discrete (noteAt (second .notes) k) 0) [
     | yes z ↦ rw (eq-eqb (noteAt (second .notes) k) 0 z)
     | no z ↦ ap (λ x. skip k || x) (f k (range-of 0 8 i .1) z)
@@ -170,7 +170,7 @@ module _ (clocks : Clocks) (a b : List Timestamp) (first second : Gathering) (n 
 
   pub relation-is : relatedNotes (first .span) (first .notes) (second .notes) ≡ relationOf clocks a b
   unfolding relatedNotes relatedAt relationOf allBefore allConcurrent weaklyBefore
-  relation-is = fold-related skip meeting loggerPlaces allRelated ∙ (λ i. record {
+  relation-is = fold-related skip around loggerPlaces allRelated ∙ (λ i. record {
     before = sym (places hasEarlier (λ m. m .earlier) (λ k l z. met k l z .0)) i;
     concurrent = sym (places (λ t. eachPasses (λ s. concurrent clocks s t) a) (λ m. not (m .earlier) && not (m .later)) (λ k l z. apart (stamp k) ∙ rw (met k l z .0, met k l z .1))) i;
     «weakly_before» = sym (sym (all-not hasLater b) ∙ places (λ t. not (hasLater t)) (λ m. not (m .later)) (λ k l z. ap not (met k l z .1))) i;

@@ -18,7 +18,7 @@ use Rattle.timestamps.specs.Order.{Clocks, clearlyEarlier, globalOf}
 use Rattle.open_calls.specs.declared.Verdict.the-variants.{Accepted}
 use Rattle.open_calls.specs.Notes.{localNote, noteAt}
 use Rattle.comparisons.specs.declared.Gathering.{Gathering}
-use Rattle.comparisons.specs.declared.Meeting.{Meeting}
+use Rattle.comparisons.specs.declared.Around.{Around}
 use Rattle.comparisons.specs.declared.Span.{Span}
 
 -- the tick of a note
@@ -70,14 +70,14 @@ pub record NotedList (clocks : Clocks) (l : List Timestamp) (a : Gathering) : Ty
 
 -- ---- one list against another
 -- a list with the note `own` of a logger meets a timestamp of that logger: by their local ticks, or by the global ticks
-unfoldable pub meetingOf : Span → ℕ → LocalTick → GlobalTick → Meeting
-meetingOf a own t g = record {
+unfoldable pub aroundOf : Span → ℕ → LocalTick → GlobalTick → Around
+aroundOf a own t g = record {
   earlier = clearlyEarlier (a .lowest) g || (ltb 0 own && ltb (tickOf own .0) (t .0));
   later = clearlyEarlier g (a .highest) || (ltb 0 own && ltb (t .0) (tickOf own .0));
 }
 
 -- a relation with one timestamp more of the second list, which the first has met
-abbrev pub relatedBy : Relation → Meeting → Relation
+abbrev pub relatedBy : Relation → Around → Relation
 relatedBy r m = record {
   before = r .before && m .earlier;
   concurrent = r .concurrent && (not (m .earlier) && not (m .later));
@@ -85,7 +85,7 @@ relatedBy r m = record {
 }
 
 unfoldable pub relatedAt : Span → ℕ → ℕ → ℕ → Relation → Relation
-relatedAt a own note g r = pick (eqb note 0) r (relatedBy r (meetingOf a own (tickOf note) (record { 0 = g })))
+relatedAt a own note g r = pick (eqb note 0) r (relatedBy r (aroundOf a own (tickOf note) (record { 0 = g })))
 
 abbrev pub allRelated : Relation
 allRelated = record { before = true; concurrent = true; «weakly_before» = true }

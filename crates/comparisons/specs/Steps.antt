@@ -67,11 +67,11 @@ compareDone n a b =
 abbrev pub firstOf : ℕ → List Timestamp → Gathering
 firstOf ratio a = foldGather (clocksOf ratio) 0 (gatheringOf (compareStart (joinVerdict ratio (length a)) 0 .span) noNotes) a
 
-abbrev pub middleOf : ℕ → List Timestamp → List Timestamp → CompareStart
-middleOf ratio a b = afterFirst (firstOf ratio a) (length a) (length b)
+abbrev pub secondStart : ℕ → List Timestamp → List Timestamp → CompareStart
+secondStart ratio a b = afterFirst (firstOf ratio a) (length a) (length b)
 
 unfoldable pub compareRun : ℕ → List Timestamp → List Timestamp → Comparison
 compareRun ratio a b =
     pick (compareStart (joinVerdict ratio (length a)) 0 .stop) (compareStart (joinVerdict ratio (length a)) 0 .answer)
-    (pick (middleOf ratio a b .stop) (middleOf ratio a b .answer)
-    (compareDone (length a) (firstOf ratio a) (foldGather (clocksOf ratio) 0 (gatheringOf (middleOf ratio a b .span) noNotes) b)))
+    (pick (secondStart ratio a b .stop) (secondStart ratio a b .answer)
+    (compareDone (length a) (firstOf ratio a) (foldGather (clocksOf ratio) 0 (gatheringOf (secondStart ratio a b .span) noNotes) b)))

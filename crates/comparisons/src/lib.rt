@@ -4,7 +4,7 @@ ghost use mathlib.Core.Bool.{true, _||_, _&&_};
 ghost use Rattle.timestamps.specs.Order.{clearlyEarlier, clocksOf, valid};
 ghost use Rattle.open_calls.specs.Steps.{joinVerdict};
 ghost use Rattle.comparisons.specs.Answers.{compareAnswer, refusedComparison};
-ghost use Rattle.comparisons.specs.Notes.{gatheringOf, meetingOf, noNotes, notedDown, relatedAt, relatedNotes, widenedBy};
+ghost use Rattle.comparisons.specs.Notes.{aroundOf, gatheringOf, noNotes, notedDown, relatedAt, relatedNotes, widenedBy};
 ghost use Rattle.comparisons.specs.Steps.{afterFirst, compareDone, compareStart, firstGathered, foldGather, gatherStep, gathered, judgedAs, placeAfter};
 use open_calls::Verdict;
 use timestamps::GlobalTick;
@@ -53,7 +53,7 @@ pub struct Gathering {
 }
 
 // Whether a list has a timestamp before another one, and one after it.
-struct Meeting {
+struct Around {
     earlier: bool,
     later: bool,
 }
@@ -249,16 +249,16 @@ pub fn after_first(a: Gathering, n: usize, m: usize) -> CompareStart
     }
 }
 
-// How a list with the note `own` of a logger, and with the global ticks of `a`, meets that logger's timestamp of another list.
-fn meet(own: u64, t: LocalTick, g: GlobalTick, a: Span) -> Meeting
-    ensures { λ r. ⌜ r ≡ meetingOf a own t g ⌝ }
+// How a list with the note `own` of a logger, and with the global ticks of `a`, lies around that logger's timestamp of another list.
+fn around_of(own: u64, t: LocalTick, g: GlobalTick, a: Span) -> Around
+    ensures { λ r. ⌜ r ≡ aroundOf a own t g ⌝ }
 {
     let lowest = a.lowest;
     let highest = a.highest;
     let earlier = lowest.clearly_earlier(g);
     let later = g.clearly_earlier(highest);
     if own == 0 {
-        Meeting {
+        Around {
             earlier: earlier,
             later: later,
         }
@@ -266,7 +266,7 @@ fn meet(own: u64, t: LocalTick, g: GlobalTick, a: Span) -> Meeting
         let o = LocalTick(own - 1);
         let before = either(earlier, o.earlier(t));
         let after = either(later, t.earlier(o));
-        Meeting {
+        Around {
             earlier: before,
             later: after,
         }
@@ -282,7 +282,7 @@ fn relate_at(r: Relation, own: u64, note: u64, g: u64, a: Span) -> Relation
     }
     let t = LocalTick(note - 1);
     let global = GlobalTick(g);
-    let m = meet(own, t, global, a);
+    let m = around_of(own, t, global, a);
     let neither = both(!m.earlier, !m.later);
     let before = both(r.before, m.earlier);
     let concurrent = both(r.concurrent, neither);

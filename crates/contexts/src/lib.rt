@@ -169,8 +169,11 @@ pub struct Choice {
     pub removed: u64,
 }
 
-// The lowest global tick of each that waits, filled in: an array handed back by value would be copied.
-fn lows_of(list: &[Packed], ticks: &[u64], globals: &[u64], lows: &mut [u64; 16])
+// The lowest global ticks of those that wait, in waiting order.
+type LowestTicks = [u64; 16];
+
+// They are filled in: an array handed back by value would be copied.
+fn lows_of(list: &[Packed], ticks: &[u64], globals: &[u64], lows: &mut LowestTicks)
     requires { ⌜ Known (now ticks) (now globals) (now list) ⌝ }
     ensures { λ _. ⌜ Lows (now (globals .entry)) (now (list .entry)) (listOf (now (list .entry)) .len) (now (lows .exit)) ⌝ }
 {
@@ -270,7 +273,7 @@ fn barred(
     rule: u8,
     i: usize,
     list: &[Packed],
-    lows: &[u64; 16],
+    lows: &LowestTicks,
     candidates: u64,
     ticks: &[u64],
     globals: &[u64],
@@ -310,7 +313,7 @@ fn is_taken(
     rule: u8,
     i: usize,
     list: &[Packed],
-    lows: &[u64; 16],
+    lows: &LowestTicks,
     candidates: u64,
     ticks: &[u64],
     globals: &[u64],

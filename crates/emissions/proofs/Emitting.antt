@@ -17,7 +17,7 @@ use Rattle.occurrences.specs.Packed.{Notes, Stands}
 use Rattle.occurrences.proofs.Packed.{stand-length, stand-more}
 use Rattle.emissions.specs.declared.Limit.{Limit}
 use Rattle.emissions.specs.declared.Limit.the-variants.{None, NodeFull, OutputFull}
-use Rattle.emissions.specs.Emissions.{Emits, Emitting, bytesOf, emitted, ended, findingsIn, madeIn, placeIn}
+use Rattle.emissions.specs.Emissions.{Emits, Emitting, bytesIn, bytesOf, emitted, ended, findingsIn, madeIn}
 
 -- ---- what the test for room says
 module _ (size at room : ℕ) (within : at ≤ room) {r : Bool} (told : r ≡ leb size (room - at)) where
@@ -49,7 +49,7 @@ module _ {ticks globals : List ℕ} (t : Notes ticks globals) (loggers : List �
   unfolding emitted
   emits-ninth k = rw (h .limit, le-leb 8 (length (s .made)) (omega (arith, made-so-far))) (emits-ended t h NodeFull)
 
-  module _ (few : madeIn tally < 8) (within : placeIn tally ≤ length out) where
+  module _ (few : madeIn tally < 8) (within : bytesIn tally ≤ length out) where
     fewer : leb 8 (length (s .made)) ≡ false
     fewer = lt-leb 8 (length (s .made)) (omega (arith, made-so-far))
 
@@ -59,18 +59,18 @@ module _ {ticks globals : List ℕ} (t : Notes ticks globals) (loggers : List �
     same-bytes : writtenBytes ticks loggers place p ≡ bytesOf loggers place x
     same-bytes = ap (bytesOf loggers place) (o .same)
 
-    bytes-then : length (s .bytes) + length (bytesOf loggers place x) ≡ placeIn tally + size
-    bytes-then = ap₂ (λ m n. m + n) (ap length (h .bytes) ∙ length-take-le (placeIn tally) out within) (sym (ap length same-bytes))
+    bytes-then : length (s .bytes) + length (bytesOf loggers place x) ≡ bytesIn tally + size
+    bytes-then = ap₂ (λ m n. m + n) (ap length (h .bytes) ∙ length-take-le (bytesIn tally) out within) (sym (ap length same-bytes))
 
-    pub emits-no-room : length out < placeIn tally + size → Emits t OutputFull tally row out next
+    pub emits-no-room : length out < bytesIn tally + size → Emits t OutputFull tally row out next
     unfolding emitted
-    emits-no-room l = rw (h .limit, fewer, bytes-then, lt-ltb (length out) (placeIn tally + size) l) (emits-ended t h OutputFull)
+    emits-no-room l = rw (h .limit, fewer, bytes-then, lt-ltb (length out) (bytesIn tally + size) l) (emits-ended t h OutputFull)
 
-    pub emits-go : {at′ : ℕ} {out′ : List ℕ} → placeIn tally + size ≤ length out → Wrote out (placeIn tally) (writtenBytes ticks loggers place p) at′ out′
+    pub emits-go : {at′ : ℕ} {out′ : List ℕ} → bytesIn tally + size ≤ length out → Wrote out (bytesIn tally) (writtenBytes ticks loggers place p) at′ out′
         → Emits t None ((madeIn tally + 1) ∷ (findingsIn tally + 1) ∷ at′ ∷ []) (set row (madeIn tally) p) out′ next
     unfolding emitted
     emits-go l w =
-        rw (h .limit, fewer, bytes-then, le-ltb (length out) (placeIn tally + size) l)
+        rw (h .limit, fewer, bytes-then, le-ltb (length out) (bytesIn tally + size) l)
         (record {
           made = rw (append-room 8 row (madeIn tally) eight p few) (stand-more t (h .made) o);
           findings = ap (λ m. m + 1) (h .findings);

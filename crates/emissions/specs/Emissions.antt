@@ -69,15 +69,15 @@ madeIn tally = getD tally 0 0
 abbrev pub findingsIn : List ℕ → ℕ
 findingsIn tally = getD tally 1 0
 
-abbrev pub placeIn : List ℕ → ℕ
-placeIn tally = getD tally 2 0
+abbrev pub bytesIn : List ℕ → ℕ
+bytesIn tally = getD tally 2 0
 
 pub record Emits {ticks globals : List ℕ} (t : Notes ticks globals) (met : Limit) (tally : List ℕ) (row : List (List ℕ)) (out : List ℕ) (s : Emitting) : Type 0 where
   pub made : Holds t row (madeIn tally) (s .made)
   pub findings : s .findings ≡ findingsIn tally
-  pub bytes : s .bytes ≡ take (placeIn tally) out
+  pub bytes : s .bytes ≡ take (bytesIn tally) out
   pub limit : s .limit ≡ met
 
 -- the place in the output is within it, and there are no more findings than bytes
 abbrev pub InOutput : (tally out : List ℕ) → Type 0
-InOutput tally out = (placeIn tally ≤ length out) × (findingsIn tally ≤ placeIn tally)
+InOutput tally out = (bytesIn tally ≤ length out) × (findingsIn tally ≤ bytesIn tally)

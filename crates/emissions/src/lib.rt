@@ -9,7 +9,7 @@ ghost use Rattle.detections.specs.Writing.{Beyond};
 ghost use Rattle.occurrences.specs.declared.Occurrence.{Occurrence};
 ghost use Rattle.occurrences.specs.Packed.{Notes, Stands};
 ghost use Rattle.occurrences.specs.Steps.{Inside};
-ghost use Rattle.emissions.specs.Emissions.{Emits, Emitting, InOutput, emitted, findingsIn, numberOf, placeIn, reached};
+ghost use Rattle.emissions.specs.Emissions.{Emits, Emitting, InOutput, bytesIn, emitted, findingsIn, numberOf, reached};
 
 // What ends the work on the way; document 01's numbers 31 to 33 (specs/Emissions.antt, numberOf).
 pub enum Limit {
@@ -31,7 +31,7 @@ pub const MADE: usize = 0;
 
 pub const FINDINGS: usize = 1;
 
-pub const AT: usize = 2;
+pub const BYTES: usize = 2;
 
 impl Limit {
     // Document 01's number of the limit, 0 for none.
@@ -72,8 +72,8 @@ pub fn emit_one(
     ensures emits { λ r. ⌜ ((globals : List ℕ) (t : Notes (now (ticks .entry)) globals) (s : Emitting) (x : Occurrence)
         → Emits t Limit.None (now (tally .entry)) (now (made .entry)) (now (out .entry)) s → Stands t (now (o .entry)) x
         → Emits t r (now (tally .exit)) (now (made .exit)) (now (out .exit)) (emitted (length (now (out .entry))) (now (loggers .entry)) place s x)) ⌝ }
-    ensures beyond { λ _. ⌜ Beyond (now (out .entry)) (now (out .exit)) (placeIn (now (tally .entry)))
-        (findingsIn (now (tally .exit))) (placeIn (now (tally .exit))) ⌝ }
+    ensures beyond { λ _. ⌜ Beyond (now (out .entry)) (now (out .exit)) (bytesIn (now (tally .entry)))
+        (findingsIn (now (tally .exit))) (bytesIn (now (tally .exit))) ⌝ }
 {
     let row = &made[..];
     let most = row.len();
@@ -81,7 +81,7 @@ pub fn emit_one(
     if most <= n {
         return Limit::NodeFull;
     }
-    let at = tally[AT];
+    let at = tally[BYTES];
     let left = out.len() - at;
     if !detections::fits(o, ticks, left) {
         return Limit::OutputFull;

@@ -9,8 +9,9 @@ use slots::KindPlaces;
 use slots::Seats;
 use slots::SlotTakers;
 use working::Answer;
-ghost use mathlib.Core.Bool.{true};
+ghost use mathlib.Core.Bool.{false, true};
 ghost use mathlib.Core.List.{List};
+ghost use mathlib.Core.Logic.{_⊎_};
 ghost use mathlib.Core.Path.{_≡_};
 ghost use Prim.Native.Nat.{ℕ, _≤_, _<_};
 ghost use lib.ListN.{getD};
@@ -71,7 +72,7 @@ fn places_for(kinds: &Places, count: usize) -> KindPlaces
 
 // Whether so many places are enough: for lists, and for what is made.
 fn fits(l: u16, lists: u16, m: u16, made: u16) -> bool
-    ensures { λ b. ⌜ (b ≡ true → (l ≤ lists) × (m ≤ made)) ⌝ }
+    ensures { λ b. ⌜ (b ≡ true → (l ≤ lists) × (m ≤ made)) × (b ≡ false → (lists < l) ⊎ (made < m)) ⌝ }
 {
     if lists < l {
         return false;

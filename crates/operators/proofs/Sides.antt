@@ -20,7 +20,7 @@ use Rattle.emissions.proofs.Emitting.{emits-as, emits-ended}
 use Rattle.arrivals.specs.Meetings.{appended, fullLimit, sides}
 use Rattle.operators.specs.Turns.{Turned, sidesOf, turnedOf}
 use Rattle.operators.specs.declared.Part.{Part}
-use Rattle.operators.specs.Views.{Half, HoldsTurned, ownPart}
+use Rattle.operators.specs.Views.{Half, HoldsTurned, NodeWaits, ownPart}
 
 -- the list on the other side
 abbrev pub otherPart : {A : Type 0} → (input middle : ℕ) → List A → List A
@@ -61,21 +61,21 @@ pub record Held {ticks globals : List ℕ} (t : Notes ticks globals) (input midd
 
 module _ {ticks globals : List ℕ} (t : Notes ticks globals) (input middle : ℕ) where
   -- from the node's two lists, and back to them
-  held-by : (b : Bool) → eqb input 0 ≡ b → (lists : List (List ℕ)) (x : Turned) → middle ≤ length lists → Waits t (take middle lists) (x .left) → Waits t (drop middle lists) (x .right)
+  held-by : (b : Bool) → eqb input 0 ≡ b → (lists : List (List ℕ)) (x : Turned) → NodeWaits t middle lists (x .left) (x .right)
       → Held t input middle lists (sidesOf input x .own) (sidesOf input x .other)
   unfolding sidesOf
-  held-by true e lists x h l r = record { inside = h; own-waits = rw e l; other-waits = rw e r }
-  held-by false e lists x h l r = record { inside = h; own-waits = rw e r; other-waits = rw e l }
+  held-by true e lists x w = record { inside = w .inside; own-waits = rw e (w .left-waits); other-waits = rw e (w .right-waits) }
+  held-by false e lists x w = record { inside = w .inside; own-waits = rw e (w .right-waits); other-waits = rw e (w .left-waits) }
 
   pub held-of : {met : Limit} {lists : List (List ℕ)} {tally : List ℕ} {made : List (List ℕ)} {out : List ℕ} (x : Turned) → HoldsTurned t met middle lists tally made out x
       → Held t input middle lists (sidesOf input x .own) (sidesOf input x .other)
-  held-of {lists = lists} x h = held-by (eqb input 0) refl lists x (h .inside) (h .left) (h .right)
+  held-of {lists = lists} x h = held-by (eqb input 0) refl lists x (h .waits)
 
   turned-by : (b : Bool) → eqb input 0 ≡ b → {met : Limit} {lists : List (List ℕ)} {tally : List ℕ} {made : List (List ℕ)} {out : List ℕ} (own other : List Occurrence) (e : Emitting)
       → Held t input middle lists own other → Emits t met tally made out e → HoldsTurned t met middle lists tally made out (turnedOf input (sides own other e))
   unfolding turnedOf
-  turned-by true q own other e h m = rw q (record { inside = h .inside; left = rw q at (h .own-waits); right = rw q at (h .other-waits); emit = m })
-  turned-by false q own other e h m = rw q (record { inside = h .inside; left = rw q at (h .other-waits); right = rw q at (h .own-waits); emit = m })
+  turned-by true q own other e h m = rw q (record { waits = record { inside = h .inside; left-waits = rw q at (h .own-waits); right-waits = rw q at (h .other-waits) }; emit = m })
+  turned-by false q own other e h m = rw q (record { waits = record { inside = h .inside; left-waits = rw q at (h .other-waits); right-waits = rw q at (h .own-waits) }; emit = m })
 
   pub turned-of : {met : Limit} {lists : List (List ℕ)} {tally : List ℕ} {made : List (List ℕ)} {out : List ℕ} (own other : List Occurrence) (e : Emitting)
       → Held t input middle lists own other → Emits t met tally made out e → HoldsTurned t met middle lists tally made out (turnedOf input (sides own other e))
@@ -136,7 +136,7 @@ module _ {ticks globals : List ℕ} (t : Notes ticks globals) (input middle : �
 
 pub holds-as : {ticks globals : List ℕ} (t : Notes ticks globals) {met : Limit} {middle : ℕ} {lists : List (List ℕ)} {tally : List ℕ} {made : List (List ℕ)} {out : List ℕ} {x : Turned}
     → HoldsTurned t met middle lists tally made out x → (l : Limit) → met ≡ l → HoldsTurned t l middle lists tally made out x
-holds-as t h l e = record { inside = h .inside; left = h .left; right = h .right; emit = emits-as t (h .emit) l e }
+holds-as t h l e = record { waits = h .waits; emit = emits-as t (h .emit) l e }
 
 -- ---- the append: what was made stays, and 31 where the list is full
 appended-by : {ticks globals : List ℕ} (t : Notes ticks globals) {tally : List ℕ} {made : List (List ℕ)} {out : List ℕ} (e : Emitting) (b : Bool) → Emits t None tally made out e

@@ -21,11 +21,15 @@ use Rattle.operators.specs.declared.Part.{Part}
 use Rattle.operators.specs.declared.Turn.{Turn}
 
 -- a node's two lists in one: the left one up to the middle, the right one from there on
+pub record NodeWaits {ticks globals : List ℕ} (t : Notes ticks globals) (middle : ℕ) (lists : List (List ℕ)) (left right : List Occurrence) : Type 0 where
+  pub inside : middle ≤ length lists
+  pub left-waits : Waits t (take middle lists) left
+  pub right-waits : Waits t (drop middle lists) right
+
+-- the node in its turn
 pub record HoldsTurned {ticks globals : List ℕ} (t : Notes ticks globals) (met : Limit) (middle : ℕ) (lists : List (List ℕ)) (tally : List ℕ) (made : List (List ℕ))
     (out : List ℕ) (x : Turned) : Type 0 where
-  pub inside : middle ≤ length lists
-  pub left : Waits t (take middle lists) (x .left)
-  pub right : Waits t (drop middle lists) (x .right)
+  pub waits : NodeWaits t middle lists (x .left) (x .right)
   pub emit : Emits t met tally made out (x .emit)
 
 -- one of them, as a part

@@ -17,7 +17,7 @@ ghost use Rattle.detections.specs.Writing.{Beyond};
 ghost use Rattle.occurrences.specs.declared.Occurrence.{Occurrence};
 ghost use Rattle.occurrences.specs.Packed.{Notes, Stand, Stands};
 ghost use Rattle.plans.specs.declared.Node.{Node};
-ghost use Rattle.emissions.specs.Emissions.{InOutput, findingsIn, placeIn};
+ghost use Rattle.emissions.specs.Emissions.{InOutput, bytesIn, findingsIn};
 ghost use Rattle.arrivals.specs.Meetings.{Arrival, actionFrom, settingOf};
 ghost use Rattle.operators.specs.Table.{actionOf, operatorOf, seq, table};
 ghost use Rattle.operators.specs.Turns.{Turned, arrives, inputTurn};
@@ -112,8 +112,8 @@ fn act(
         → HoldsTurned t Limit.None (turn .middle) (now (lists .entry)) (now (tally .entry)) (now (made .entry)) (now (out .entry)) x
         → HoldsTurned t r (turn .middle) (now (lists .exit)) (now (tally .exit)) (now (made .exit)) (now (out .exit))
         (arrives (settingOf (length (now (out .entry))) (t .clocks) (now (loggers .entry))) node (turn .place) x a)) ⌝ }
-    ensures beyond { λ _. ⌜ Beyond (now (out .entry)) (now (out .exit)) (placeIn (now (tally .entry)))
-        (findingsIn (now (tally .exit))) (placeIn (now (tally .exit))) ⌝ }
+    ensures beyond { λ _. ⌜ Beyond (now (out .entry)) (now (out .exit)) (bytesIn (now (tally .entry)))
+        (findingsIn (now (tally .exit))) (bytesIn (now (tally .exit))) ⌝ }
 {
     let action = turn.action;
     if action == PASS {
@@ -172,8 +172,8 @@ pub fn input_turn(
         → HoldsTurned t Limit.None (turn .middle) (now (lists .entry)) (now (tally .entry)) (now (made .entry)) (now (out .entry)) x
         → HoldsTurned t r (turn .middle) (now (lists .exit)) (now (tally .exit)) (now (made .exit)) (now (out .exit))
         (inputTurn (settingOf (length (now (out .entry))) (t .clocks) (now (loggers .entry))) node (turn .place) event (turn .input) l x)) ⌝ }
-    ensures beyond { λ _. ⌜ Beyond (now (out .entry)) (now (out .exit)) (placeIn (now (tally .entry)))
-        (findingsIn (now (tally .exit))) (placeIn (now (tally .exit))) ⌝ }
+    ensures beyond { λ _. ⌜ Beyond (now (out .entry)) (now (out .exit)) (bytesIn (now (tally .entry)))
+        (findingsIn (now (tally .exit))) (bytesIn (now (tally .exit))) ⌝ }
 {
     let n = arrivals.len();
     let mut i: usize = 0;

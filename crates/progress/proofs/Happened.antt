@@ -28,7 +28,7 @@ use Rattle.emissions.proofs.Limits.{emittedAll-still}
 use Rattle.arrivals.specs.Meetings.{Arrival, Meeting, Setting, Sides, appended, carriedOut, meetingOf, settingOf, sides}
 use Rattle.operators.specs.Turns.{Turned, arrives, begun, inOrder, inputTurn, meetingAt, nodeTurn, sidesOf, turnedOf}
 use Rattle.progress.specs.Progress.{NodeLists, Progress, arrivalsOf, closed, eventStep, noLists, nodeStep, numbersByPlace, runOf, stampOf, start, turnAt, turned}
-use Rattle.progress.specs.Happened.{ComesFrom, FirstOf, Happened, Made, atNode, clearedBy, findingFrom, foldTells, happened, inArrival, inEvent, inInput, inTurn, joinedBy, listsAfter, listsOf, loopTells, allMade}
+use Rattle.progress.specs.Happened.{ComesFrom, FirstOf, Happened, Made, allMade, atNode, clearedBy, findingFrom, foldTells, happened, inArrival, inEvent, inInput, inTurn, joinedBy, listsAfter, listsFrom, loopTells}
 
 -- ---- a state beside what has happened so far
 module _ {H S : Type 0} (Q : List H → S → Type 0) where
@@ -128,14 +128,14 @@ module _ (s : Setting) (place : ℕ) (e : Emitting) (m : Meeting) where
       rw (p, q, z) (record { findings = refl; bytes = refl; unlimited = λ h. p; lists = λ h. absurd (never-both {b = true} refl h) })
 
 -- ---- one meeting more
-lists-more : (k : ℕ) (l : List Happened) (h : Happened) → listsOf k (l ++ (h ∷ [])) ≡ pick (eqb (h .node) k) (listsAfter (listsOf k l) (h .meeting)) (listsOf k l)
-unfolding listsOf fold
+lists-more : (k : ℕ) (l : List Happened) (h : Happened) → listsFrom k (l ++ (h ∷ [])) ≡ pick (eqb (h .node) k) (listsAfter (listsFrom k l) (h .meeting)) (listsFrom k l)
+unfolding listsFrom fold
 lists-more k l h = fold-append (λ w h. pick (eqb (h .node) k) (listsAfter w (h .meeting)) w) l (h ∷ []) noLists
 
-lists-here : (k : ℕ) (l : List Happened) (m : Meeting) → listsOf k (l ++ (record { node = k; meeting = m } ∷ [])) ≡ listsAfter (listsOf k l) m
+lists-here : (k : ℕ) (l : List Happened) (m : Meeting) → listsFrom k (l ++ (record { node = k; meeting = m } ∷ [])) ≡ listsAfter (listsFrom k l) m
 lists-here k l m = lists-more k l (record { node = k; meeting = m }) ∙ rw (eq-eqb k k refl)
 
-lists-elsewhere : (k : ℕ) (l : List Happened) (h : Happened) → (h .node ≡ k → ⊥) → listsOf k (l ++ (h ∷ [])) ≡ listsOf k l
+lists-elsewhere : (k : ℕ) (l : List Happened) (h : Happened) → (h .node ≡ k → ⊥) → listsFrom k (l ++ (h ∷ [])) ≡ listsFrom k l
 lists-elsewhere k l h n = lists-more k l h ∙ rw (ne-eqb (h .node) k n)
 
 made-more : (place : ℕ) (l : List Happened) (m : Meeting)
@@ -160,8 +160,8 @@ module _ (s : Setting) where
 
   -- at place k, in the turn: its own lists, those of the others as they were, and what was written
   record InTurn (k : ℕ) (p : Progress) (l : List Happened) (t : Turned) : Type 0 where
-    own : reached (t .emit .limit) ≡ false → listsIn t ≡ listsOf k l
-    others : reached (t .emit .limit) ≡ false → (i : ℕ) → (k ≡ i → ⊥) → getD (p .waiting) i noLists ≡ listsOf i l
+    own : reached (t .emit .limit) ≡ false → listsIn t ≡ listsFrom k l
+    others : reached (t .emit .limit) ≡ false → (i : ℕ) → (k ≡ i → ⊥) → getD (p .waiting) i noLists ≡ listsFrom i l
     writes : Writes l (t .emit)
 
   -- findings one after the other, where no limit was met before
@@ -250,9 +250,9 @@ module _ (s : Setting) where
     from = record { findings = q .writes; waiting = waiting };
   }
     where
-      waiting : reached (t .emit .limit) ≡ false → (i : ℕ) → getD (set (p .waiting) k (listsIn t)) i noLists ≡ listsOf i l
+      waiting : reached (t .emit .limit) ≡ false → (i : ℕ) → getD (set (p .waiting) k (listsIn t)) i noLists ≡ listsFrom i l
       waiting z i = elim (ℕ-discrete k i) [
-        | yes e ↦ subst (λ j. getD (set (p .waiting) k (listsIn t)) j noLists ≡ listsOf j l) e
+        | yes e ↦ subst (λ j. getD (set (p .waiting) k (listsIn t)) j noLists ≡ listsFrom j l) e
             (getD-set-same (p .waiting) k (listsIn t) noLists (omega (arith, size)) ∙ q .own z)
         | no n ↦ getD-set-other (p .waiting) k i (listsIn t) noLists (λ e. n (sym e)) ∙ q .others z i n
       ]
@@ -285,7 +285,7 @@ module _ (s : Setting) where
         (λ k m r h. node-tells (e .kind) own k m r (omega (arith, h))) l p q))
 
   start-tells : Told [] start
-  unfolding start listsOf allMade flatMap fold findingsBytes
+  unfolding start listsFrom allMade flatMap fold findingsBytes
   start-tells = record {
     size = refl;
     from = record {

@@ -5,7 +5,7 @@ use Rattle.arrivals.proofs.Views.{Left}
 use Rattle.detections.proofs.Writing.{beyond-none, beyond-then}
 use Rattle.detections.specs.Writing.{Beyond}
 use Rattle.emissions.specs.declared.Limit.the-variants.{None}
-use Rattle.emissions.specs.Emissions.{Emits, Emitting, emitted, emittedAll, findingsIn, placeIn, reached}
+use Rattle.emissions.specs.Emissions.{Emits, Emitting, bytesIn, emitted, emittedAll, findingsIn, reached}
 use Rattle.emissions.proofs.Emitting.{emits-as}
 use Rattle.emissions.proofs.Limits.{emitted-still, unreached}
 use Rattle.sequences.proofs.Loops.{fold-still}
@@ -33,7 +33,7 @@ use Rattle.arrivals.proofs.emit_each.Tie as tie
 
 abbrev Inv-loop : tie.InvT-loop
 Inv-loop tally₀ made₀ list taken o place ticks globals loggers out₀ waiting n rest₀ i₀ tally made out rest i =
-    (i ≡ firstMark (marksOf rest)) × (length out ≡ length out₀) × Beyond out₀ out (placeIn tally₀) (findingsIn tally) (placeIn tally)
+    (i ≡ firstMark (marksOf rest)) × (length out ≡ length out₀) × Beyond out₀ out (bytesIn tally₀) (findingsIn tally) (bytesIn tally)
     × ((t : Notes ticks globals) (l : List Occurrence) (s : Emitting) (x : Occurrence) → Waits t list l → Emits t None tally₀ made₀ out₀ s → Stands t o x
     → Left t tally made out (fold (emitted (length out₀) loggers place) (map (λ w. combinedOf (t .clocks) w x) (marked l (marksOf rest))))
     (emittedAll (length out₀) loggers place s (map (λ w. combinedOf (t .clocks) w x) (marked l (marksOf taken)))))

@@ -9,7 +9,7 @@ use Rattle.detections.specs.Writing.{Wrote}
 use Rattle.detections.proofs.Sizes.{beyond-finding}
 use Rattle.detections.proofs.Writing.{beyond-none}
 use Rattle.occurrences.specs.Packed.{occurrenceOf}
-use Rattle.emissions.specs.Emissions.{bytesOf, madeIn, placeIn}
+use Rattle.emissions.specs.Emissions.{bytesIn, bytesOf, madeIn}
 use Rattle.emissions.proofs.Emitting.{emits-ninth, emits-no-room, emits-go, has-room, no-room}
 use borrow.Author.Needs.{needs}
 use Rattle.emissions.proofs.emit_one.Statement.{statement}
@@ -85,7 +85,7 @@ returns-3 c =
     let size = has-room _ _ _ (start .pre .2 .0) (fit .fits2 .ensures (now (a .loggers)) (a .place)) (room .if2 .left) in
     let found = occurrenceOf (now (a .ticks)) (now (a .o)) in
     let bytes = bytesOf (now (a .loggers)) (a .place) found in
-    let w : Wrote (now (a .out)) (placeIn (now (a .tally))) bytes (write .write .result) (write .write .last .0) = write .write .ensures in (
+    let w : Wrote (now (a .out)) (bytesIn (now (a .tally))) bytes (write .write .result) (write .write .last .0) = write .write .ensures in (
       (λ globals t s x h o. emits-go t _ _ h o (eight (few .before)) (below few) (start .pre .2 .0) size w),
       beyond-finding (findingOf (now (a .loggers)) (a .place) (found .latest) (found .events)) size (start .pre .2 .1) w,
     )

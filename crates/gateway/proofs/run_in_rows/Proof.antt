@@ -56,7 +56,7 @@ run-small-requires c κs =
     let s = p .before .before .before .before .before .before .before .before .before .before .before in
     let q = p .before .before .before .before .before .before .before .places-for in
     let all = p .seat-made .ensures (q .result) (p .before .before .before .seat-nodes .ensures) in
-    let enough = yes .before .fits2 .ensures (yes .if1 .taken) in
+    let enough = yes .before .fits2 .ensures .0 (yes .if1 .taken) in
     (enough .0, enough .1, (_, q .result, ready _ _ _ _ _ all _ _ refl refl _ _ (q .ensures)), s .pre .1)
 
 same-length : tie.Need-same-length

@@ -17,7 +17,7 @@ run-half-requires : tie.Need-run-half-requires
 run-half-requires c κs =
     let yes = c .before in
     let s = yes .before .before .before .before .before in
-    let enough = yes .before .fits2 .ensures (yes .if1 .taken) in
+    let enough = yes .before .fits2 .ensures .0 (yes .if1 .taken) in
     (enough .0, enough .1, s .pre .2, s .pre .3)
 
 same-length : tie.Need-same-length

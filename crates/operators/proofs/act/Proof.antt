@@ -84,7 +84,7 @@ part-of-requires : tie.Need-part-of-requires
 part-of-requires c κs =
     let (some, fits, spares) = c .before .before .before .before .before .pre in
     let (t, x, y, h, p) = some in
-    h .inside
+    h .waits .inside
 
 -- ---- its own side
 abbrev start-of : tie.After-part-of → tie.Start
@@ -96,7 +96,7 @@ own-part : (c : tie.After-part-of) (l : List (List ℕ)) → length l ≡ length
 own-part c l e =
     let (some, fits, spares) = start-of c .pre in
     let (t, x, y, h, p) = some in
-    let inside : start-of c .args .turn .middle ≤ length l = omega (arith, h .inside, e) in
+    let inside : start-of c .args .turn .middle ≤ length l = omega (arith, h .waits .inside, e) in
     half-is _ _ l (c .part-of .result) inside (subst (λ (n : ℕ). Half (eqb (start-of c .args .turn .input) 0) (start-of c .args .turn .middle) n (c .part-of .result)) (sym e) (c .part-of .ensures))
 
 own-long : (c : tie.After-part-of) (l : List (List ℕ)) → length l ≡ length (start-of c .args .lists .now)
@@ -157,7 +157,7 @@ part-of-requires-2 : tie.Need-part-of-requires-2
 part-of-requires-2 c κs =
     let (some, fits, spares) = start-of (c .before) .pre in
     let (t, x, y, h, p) = some in
-    h .inside
+    h .waits .inside
 
 -- ---- the other side
 abbrev first-of : tie.After-part-of2 → tie.After-part-of
@@ -169,7 +169,7 @@ other-part : (c : tie.After-part-of2)
 other-part c =
     let (some, fits, spares) = start-of (first-of c) .pre in
     let (t, x, y, h, p) = some in
-    half-is _ _ _ (c .part-of2 .result) (h .inside) (c .part-of2 .ensures)
+    half-is _ _ _ (c .part-of2 .result) (h .waits .inside) (c .part-of2 .ensures)
 
 other-long : (c : tie.After-part-of2)
     → (let r = c .part-of2 .result in length (take (r .to - r .from) (drop (r .from) (start-of (first-of c) .args .lists .now))) ≡ r .to - r .from)

@@ -4,7 +4,7 @@ use Rattle.arrivals.specs.Meetings.{Arrival, settingOf}
 use Rattle.detections.proofs.Writing.{beyond-none, beyond-then}
 use Rattle.detections.specs.Writing.{Beyond}
 use Rattle.emissions.proofs.Limits.{unreached}
-use Rattle.emissions.specs.Emissions.{findingsIn, placeIn, reached}
+use Rattle.emissions.specs.Emissions.{bytesIn, findingsIn, reached}
 use Rattle.emissions.specs.declared.Limit.the-variants.{None}
 use Rattle.occurrences.proofs.Packed.{stand-at, stand-length}
 use Rattle.occurrences.specs.Packed.{Notes, Stand, Stands}
@@ -29,7 +29,7 @@ use Rattle.operators.proofs.input_turn.Tie as tie
 
 abbrev Inv-loop : tie.InvT-loop
 Inv-loop turn lists₀ tally₀ made₀ arrivals ticks globals loggers out₀ n i₀ lists tally made out i =
-    (i ≤ n) × (length out ≡ length out₀) × Beyond out₀ out (placeIn tally₀) (findingsIn tally) (placeIn tally) × (length lists ≡ length lists₀)
+    (i ≤ n) × (length out ≡ length out₀) × Beyond out₀ out (bytesIn tally₀) (findingsIn tally) (bytesIn tally) × (length lists ≡ length lists₀)
     × ((t : Notes ticks globals) (node : Node) (x : Turned) (l : List Occurrence) (event : ℕ) → Takes node turn → Stand t arrivals l
     → HoldsTurned t None (turn .middle) lists₀ tally₀ made₀ out₀ x
     → HoldsTurned t None (turn .middle) lists tally made out

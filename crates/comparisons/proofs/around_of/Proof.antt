@@ -1,10 +1,10 @@
 -- By the note of the logger.
-use Rattle.comparisons.proofs.Relations.{meeting-none, meeting-own}
+use Rattle.comparisons.proofs.Relations.{around-none, around-own}
 use borrow.Author.Needs.{needs}
-use Rattle.comparisons.proofs.meet.Statement.{statement}
-use Rattle.comparisons.proofs.meet.Tie as tie
-use Rattle.comparisons.proofs.meet.Reads as reads
-use Rattle.comparisons.proofs.meet.Lts as lts
+use Rattle.comparisons.proofs.around_of.Statement.{statement}
+use Rattle.comparisons.proofs.around_of.Tie as tie
+use Rattle.comparisons.proofs.around_of.Reads as reads
+use Rattle.comparisons.proofs.around_of.Lts as lts
 use Rattle.comparisons.proofs.either.Reads as either-reads
 use Rattle.timestamps.proofs.GlobalTick.clearly_earlier.Reads as clearly-earlier-reads
 use Rattle.timestamps.proofs.LocalTick.earlier.Reads as earlier-reads
@@ -31,15 +31,15 @@ either-requires-2 : tie.Need-either-requires-2
 either-requires-2 c κs = search needs
 
 returns : tie.Need-returns
-returns c = meeting-none _ _ _ _ _ _ (c .before .before .clearly-earlier .ensures) (c .before .clearly-earlier2 .ensures) (c .if1 .taken)
+returns c = around-none _ _ _ _ _ _ (c .before .before .clearly-earlier .ensures) (c .before .clearly-earlier2 .ensures) (c .if1 .taken)
 
 returns-2 : tie.Need-returns-2
 returns-2 c = let o = c .before .before .before .before in
-    meeting-own _ _ _ _ _ _ (o .before .before .clearly-earlier .ensures) (o .before .clearly-earlier2 .ensures) _ _ _ _ (o .if1 .left)
+    around-own _ _ _ _ _ _ (o .before .before .clearly-earlier .ensures) (o .before .clearly-earlier2 .ensures) _ _ _ _ (o .if1 .left)
     (c .before .before .before .earlier .ensures) (c .before .before .either .ensures) (c .before .earlier2 .ensures) (c .either2 .ensures)
 
-pub meet-spec : {M : Type 1} → statement M
-meet-spec =
+pub around-of-spec : {M : Type 1} → statement M
+around-of-spec =
     tie.close
     (tie.spec
     clearly-earlier-requires
