@@ -1,4 +1,4 @@
-/* The two open calls from C: the examples J1 to J8, the refusals 34 to 37 with their places, empty lists.
+/* The two open calls from C: the examples J1 to J8, every word, the refusals 34 to 37 with their places, empty lists.
    Ratio 10 unless a line says otherwise; {1, 80} is logger place 1, tick 80. */
 #include "rathunxa.h"
 #include <stdio.h>
@@ -7,7 +7,12 @@
 
 _Static_assert(sizeof(struct rathunxa_timestamp) == 16, "logger, padding, tick");
 _Static_assert(sizeof(struct rathunxa_join_answer) == 144, "two numbers and eight timestamps");
-_Static_assert(sizeof(struct rathunxa_comparison) == 24, "two numbers, three replies, padding");
+_Static_assert(sizeof(struct rathunxa_comparison) == 24, "two numbers, order, weakly before, padding");
+_Static_assert(offsetof(struct rathunxa_comparison, place) == 8, "after the number");
+_Static_assert(offsetof(struct rathunxa_comparison, order) == 16, "after the place");
+_Static_assert(offsetof(struct rathunxa_comparison, weakly_before) == 17, "a byte after the order");
+_Static_assert(RATHUNXA_INCOMPARABLE == 0 && RATHUNXA_BEFORE == 1, "numbers of the orders");
+_Static_assert(RATHUNXA_AFTER == 2 && RATHUNXA_CONCURRENT == 3, "numbers of the orders");
 
 typedef struct rathunxa_timestamp timestamp;
 
@@ -79,22 +84,23 @@ static struct rathunxa_comparison compare(uint64_t ratio, const timestamp *first
     return answer;
 }
 
-/* The replies as letters: b before, c concurrent, w weakly before. */
+static int has_reply(const struct rathunxa_comparison *answer, uint8_t order, bool weakly_before)
+{
+    return answer->order == order && answer->weakly_before == weakly_before;
+}
+
 static void replies(const char *what, const timestamp *first, size_t first_count, const timestamp *second,
-                    size_t second_count, const char *wanted)
+                    size_t second_count, uint8_t order, bool weakly_before)
 {
     struct rathunxa_comparison a = compare(10, first, first_count, second, second_count);
-    int same = a.before == (strchr(wanted, 'b') != NULL) && a.concurrent == (strchr(wanted, 'c') != NULL) &&
-               a.weakly_before == (strchr(wanted, 'w') != NULL);
-    expect(a.number == RATHUNXA_OK && a.place == 0 && same, what);
+    expect(a.number == RATHUNXA_OK && a.place == 0 && has_reply(&a, order, weakly_before), what);
 }
 
 static void compare_gives(const char *what, uint64_t ratio, const timestamp *first, size_t first_count,
                           const timestamp *second, size_t second_count, uint64_t number, uint64_t place)
 {
     struct rathunxa_comparison a = compare(ratio, first, first_count, second, second_count);
-    int none = !a.before && !a.concurrent && !a.weakly_before;
-    expect(a.number == number && a.place == place && none, what);
+    expect(a.number == number && a.place == place && has_reply(&a, RATHUNXA_INCOMPARABLE, false), what);
 }
 
 static void test_examples(void)
@@ -104,8 +110,8 @@ static void test_examples(void)
     joins("J3", LIST({1, 89}, {2, 100}), LIST({2, 100}));
     joins("J4", LIST({1, 80}, {2, 90}, {3, 100}), LIST({2, 90}, {3, 100}));
     joins("J4, another order", LIST({3, 100}, {1, 80}, {2, 90}), LIST({2, 90}, {3, 100}));
-    replies("J5", LIST({1, 80}), LIST({2, 90}, {3, 100}), "w");
-    replies("J5, turned round", LIST({2, 90}, {3, 100}), LIST({1, 80}), "");
+    replies("J5", LIST({1, 80}), LIST({2, 90}, {3, 100}), RATHUNXA_INCOMPARABLE, true);
+    replies("J5, turned round", LIST({2, 90}, {3, 100}), LIST({1, 80}), RATHUNXA_INCOMPARABLE, false);
     joins("J6", LIST({2, 55}, {2, 55}), LIST({2, 55}));
     joins("J7", LIST({1, 80}, {1, 90}, {2, 80}, {2, 90}), LIST({1, 90}, {2, 90}));
     joins("J8", LIST({1, 0}, {1, LAST}), LIST({1, LAST}));
@@ -128,13 +134,17 @@ static void test_grouping(void)
 
 static void test_replies(void)
 {
-    replies("before", LIST({1, 80}), LIST({1, 81}), "bw");
-    replies("after", LIST({1, 81}), LIST({1, 80}), "");
-    replies("before, two loggers", LIST({1, 89}), LIST({2, 100}, {3, 105}), "bw");
-    replies("concurrent", LIST({1, 89}), LIST({2, 90}), "cw");
-    replies("concurrent with itself", LIST({2, 55}, {3, 60}), LIST({3, 60}, {2, 55}, {2, 55}), "cw");
-    replies("incomparable", LIST({1, 80}, {2, 80}), LIST({1, 81}, {2, 79}), "");
-    replies("both ends", LIST({0, 0}), LIST({7, LAST}), "bw");
+    replies("before", LIST({1, 80}), LIST({1, 81}), RATHUNXA_BEFORE, true);
+    replies("after", LIST({1, 81}), LIST({1, 80}), RATHUNXA_AFTER, false);
+    replies("before, other loggers", LIST({1, 89}), LIST({2, 100}, {3, 105}), RATHUNXA_BEFORE, true);
+    replies("after, other loggers", LIST({2, 100}, {3, 105}), LIST({1, 89}), RATHUNXA_AFTER, false);
+    replies("before, both ends", LIST({0, 0}), LIST({7, LAST}), RATHUNXA_BEFORE, true);
+    replies("after, both ends", LIST({7, LAST}), LIST({0, 0}), RATHUNXA_AFTER, false);
+    replies("concurrent", LIST({1, 89}), LIST({2, 90}), RATHUNXA_CONCURRENT, true);
+    replies("concurrent, turned round", LIST({2, 90}), LIST({1, 89}), RATHUNXA_CONCURRENT, true);
+    replies("concurrent, itself", LIST({2, 55}, {3, 60}), LIST({3, 60}, {2, 55}, {2, 55}), RATHUNXA_CONCURRENT, true);
+    replies("incomparable", LIST({1, 80}, {2, 80}), LIST({1, 81}, {2, 79}), RATHUNXA_INCOMPARABLE, false);
+    replies("incomparable, turned round", LIST({1, 81}, {2, 79}), LIST({1, 80}, {2, 80}), RATHUNXA_INCOMPARABLE, false);
 }
 
 static void test_join_refusals(void)
@@ -161,7 +171,7 @@ static void test_compare_refusals(void)
     timestamp many[129];
     for (int i = 0; i < 129; i++) many[i] = (timestamp){1, 80};
     struct rathunxa_comparison full = compare(1, many, 128, many, 128);
-    expect(full.number == RATHUNXA_OK && full.concurrent, "128 entries in both lists");
+    expect(full.number == RATHUNXA_OK && has_reply(&full, RATHUNXA_CONCURRENT, true), "128 entries in both lists");
     compare_gives("34: ratio 0", 0, NULL, 0, NULL, 0, 34, 0);
     compare_gives("34: ratio 1,000,001", RATHUNXA_MAX_RATIO + 1, LIST({1, 80}), LIST({1, 80}), 34, 0);
     compare_gives("35: first empty", 10, NULL, 0, LIST({9, 80}), 35, 0);

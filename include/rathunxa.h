@@ -95,18 +95,19 @@
  *  - A pointer must lead to as many bytes or entries as the length or count
  *    says. The library cannot check that. With 0 the pointer may be NULL.
  *  - Look at the number first. With a number other than 0 there is no result:
- *    no finding, the timestamps all blank, the replies all false. Only a limit
- *    (31 to 33) leaves the findings before it in the output. The place says
- *    where the fault or limit is.
+ *    no finding, the timestamps all blank, the order incomparable and weakly
+ *    before false. Only a limit (31 to 33) leaves the findings before it in the
+ *    output. The place says where the fault or limit is.
  *  - After rathunxa_work() only the first `bytes` bytes of the output are its
  *    own. What follows is as the caller left it.
  *  - Plan, passage and findings give a logger's NUMBER, which the plan
  *    chooses. An entry of a list names a logger by its PLACE, 0 to 7.
  *  - Concurrent does not carry over: with ratio 10, 1:80 (logger 1, tick 80)
  *    is concurrent with 2:90 and that with 3:100, but 1:80 is before 3:100.
- *  - "Not before" does not mean "after": two composite timestamps may be
- *    before, after, concurrent or none of these. Weakly before is wider than
- *    "before or concurrent".
+ *  - "Not before" does not mean "after": two composite timestamps may also be
+ *    concurrent or incomparable. Weakly before is wider than "before or
+ *    concurrent": with ratio 10, 1:80 alone and 2:90 with 3:100 are
+ *    incomparable, and the first is weakly before the second.
  *  - A larger tick of another logger is not a later one: with ratio 10, 1:89
  *    is concurrent with 2:90.
  *  - Equal timestamps are concurrent. A list may hold one several times.
@@ -262,6 +263,22 @@ extern "C" {
 /** @} */
 /** @} */
 
+/** @defgroup orders Orders
+ *
+ *  How the first of two composite timestamps stands to the second: of these
+ *  four just one holds.
+ *  @{
+ */
+/** None of the other three holds; or a number other than 0 was answered. */
+#define RATHUNXA_INCOMPARABLE 0
+/** Each timestamp of the second has some timestamp of the first before it. */
+#define RATHUNXA_BEFORE 1
+/** Each timestamp of the first has some timestamp of the second before it. */
+#define RATHUNXA_AFTER 2
+/** Each timestamp of the first is concurrent with each of the second. */
+#define RATHUNXA_CONCURRENT 3
+/** @} */
+
 /** What rathunxa_work() answers. */
 struct rathunxa_answer {
     uint64_t number;   /**< 0, 1 to 12, 21 to 26 or 31 to 33 */
@@ -287,16 +304,17 @@ struct rathunxa_join_answer {
     struct rathunxa_timestamp timestamps[RATHUNXA_LOGGERS];
 };
 
-/** What rathunxa_compare() answers. The replies are all false with a number
- *  other than 0. */
+/** What rathunxa_compare() answers. With a number other than 0 the order is
+ *  RATHUNXA_INCOMPARABLE and weakly_before is false. */
 struct rathunxa_comparison {
     uint64_t number; /**< 0, 34, 35, 36 or 37 */
     uint64_t place;  /**< where the number was met; 0 with number 0 */
-    /** Each timestamp of the second list has some of the first before it. */
-    bool before;
-    /** Each timestamp of the first list is concurrent with each of the second. */
-    bool concurrent;
-    /** No timestamp of the second list is before one of the first. */
+    /** RATHUNXA_INCOMPARABLE, RATHUNXA_BEFORE, RATHUNXA_AFTER or
+     *  RATHUNXA_CONCURRENT: how the first list stands to the second. */
+    uint8_t order;
+    /** No timestamp of the second list is before one of the first; only this
+     *  way round. True with RATHUNXA_BEFORE and RATHUNXA_CONCURRENT, false with
+     *  RATHUNXA_AFTER, either with RATHUNXA_INCOMPARABLE. */
     bool weakly_before;
 };
 
@@ -338,8 +356,10 @@ struct rathunxa_answer rathunxa_work(const uint8_t *plan, size_t plan_len, const
  */
 struct rathunxa_join_answer rathunxa_join(uint64_t ratio, const struct rathunxa_timestamp *list, size_t count);
 
-/** Says of two composite timestamps whether the first is before, concurrent
- *  with, weakly before the second.
+/** Says of two composite timestamps how the first stands to the second: before,
+ *  after, concurrent or incomparable; and beside it whether the first is weakly
+ *  before the second, which is that no timestamp of the second is before one of
+ *  the first.
  *
  *  Places run through both lists: entry i of the second list has the place
  *  first_count + i. The first list is checked fully, then the second.
@@ -349,7 +369,8 @@ struct rathunxa_join_answer rathunxa_join(uint64_t ratio, const struct rathunxa_
  *  @param[in] first_count   how many, 1 to 128
  *  @param[in] second        pairwise concurrent timestamps, in any order
  *  @param[in] second_count  how many, 1 to 128
- *  @return number, place and three replies. Numbers:
+ *  @return number, place, order and weakly before. With a number other than 0
+ *  the order is RATHUNXA_INCOMPARABLE and weakly before is false. Numbers:
  *  - 0   compared
  *  - 34  ratio not allowed, place 0
  *  - 35  a count is 0 or over 128, place 0 or first_count

@@ -25,13 +25,23 @@ pub struct JoinAnswer {
     pub timestamps: [Timestamp; 8],
 }
 
+/// The word for two composite timestamps, with its number.
+#[repr(u8)]
+#[derive(Debug, Clone, Copy, PartialEq, Eq)]
+pub enum Order {
+    Incomparable = 0,
+    Before = 1,
+    After = 2,
+    Concurrent = 3,
+}
+
 #[repr(C)]
 #[derive(Debug, Clone, Copy, PartialEq, Eq)]
 pub struct Comparison {
     pub number: u64,
     pub place: u64,
-    pub before: bool,
-    pub concurrent: bool,
+    /// The number of an `Order`. Not an `Order` itself, since the library could give a number that none has.
+    pub order: u8,
     pub weakly_before: bool,
 }
 

@@ -1,4 +1,5 @@
 //! Every passage of up to four events: the library against the second implementation, and the joins of all findings.
+//! Before that, every comparison of short lists.
 
 use rathunxa_compare::{exhaustive, options};
 use std::process::ExitCode;

@@ -4,8 +4,6 @@ use super::agreement::agreed_work;
 use super::{print_totals, Totals};
 use crate::generator::{file_case, swept_cases, Random};
 
-/// From so many pairs on, every number has to occur.
-pub const ENOUGH: u64 = 100_000;
 const SWEPT_PAIRS: u64 = 25;
 
 pub fn one_pair(random: &mut Random) -> Result<String, String> {

@@ -5,19 +5,26 @@ mod files;
 mod open_calls;
 
 pub use agreement::{agreed_comparison, agreed_join, agreed_work};
+pub use open_calls::{agreed_reply, all_replied_often};
 
 use crate::generator::Random;
 use std::collections::BTreeMap;
 
 /// How often each answer occurred.
-type Totals = BTreeMap<String, u64>;
+pub type Totals = BTreeMap<String, u64>;
+
+/// From so many cases on, every answer has to occur.
+const ENOUGH: u64 = 100_000;
 
 /// Compares `cases` cases of each open call, `files` pairs of files, and a sweep over some small pairs.
 pub fn run_all(cases: u64, files: u64, seed: u64) -> Result<(), String> {
     run("join", cases, seed, open_calls::one_join)?;
-    run("compare", cases, seed, open_calls::one_comparison)?;
+    let totals = run("compare", cases, seed, open_calls::one_comparison)?;
+    if cases >= ENOUGH {
+        all_replied_often(&totals)?;
+    }
     let totals = run("files", files, seed, files::one_pair)?;
-    if files >= files::ENOUGH {
+    if files >= ENOUGH {
         files::all_occurred(&totals)?;
     }
     files::sweep(seed)?;
@@ -38,7 +45,7 @@ fn run(call: &str, cases: u64, seed: u64, one: fn(&mut Random) -> Result<String,
     Ok(totals)
 }
 
-fn print_totals(totals: &Totals) {
+pub fn print_totals(totals: &Totals) {
     for (answer, count) in totals {
         println!("  {answer}: {count}");
     }

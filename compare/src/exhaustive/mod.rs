@@ -1,15 +1,18 @@
 //! Every short passage under a set of plans: the library and the second implementation agree on each, and no two
-//! findings with the same set of timestamps differ in their latest ones, in whatever order their events arrived.
+//! findings with the same set of timestamps differ in their latest ones, in whatever order their events arrived. And
+//! every comparison of short lists.
 
+mod comparisons;
 mod joins;
 mod passages;
 mod plans;
 #[cfg(test)]
 mod tests;
 
-use crate::comparison::agreed_work;
+use crate::comparison::{agreed_work, print_totals};
 use crate::files::{passage_bytes, EventEntry, FileCase, PlanFile};
 use crate::reference::detections;
+use comparisons::compare_all;
 use joins::Joins;
 use passages::{how_many, scattered, MOST_EVENTS};
 use plans::plans;
@@ -33,8 +36,11 @@ struct Worker {
     joins: Joins,
 }
 
-/// Works one passage in `share`, and of the shortest all.
+/// Makes all comparisons, and works one passage in `share`, and of the shortest all.
 pub fn run(share: u64) -> Result<(), String> {
+    let compared = compare_all()?;
+    println!("exhaustive: {} comparisons", compared.values().sum::<u64>());
+    print_totals(&compared);
     let stopped = &AtomicBool::new(false);
     let ended: Vec<Result<Worker, String>> = thread::scope(|scope| {
         let started: Vec<_> =

@@ -1,9 +1,11 @@
-//! The passages are all different, the plans are allowed, and a second join of one set is told.
+//! The passages and the lists are all different, the plans are allowed, and a second join of one set is told.
 
+use super::comparisons::lists;
 use super::joins::Joins;
 use super::passages::{how_many, scattered, LOGGERS, TICKS};
 use super::plans::plans;
 use crate::files::{passage_bytes, EventEntry};
+use crate::interface::Timestamp;
 use crate::reference::{work, Detection};
 use std::collections::BTreeSet;
 
@@ -19,6 +21,12 @@ fn a_36th_part_begins_in_every_way() {
     let part = 0..how_many(4) / 36;
     let begun: BTreeSet<Vec<u8>> = part.map(|number| passage_bytes(&scattered(4, number)[..3])).collect();
     assert_eq!(begun.len(), 46_656);
+}
+
+#[test]
+fn lists_are_all_different() {
+    assert_eq!(lists().len(), 7 * 7 * 7 - 1);
+    assert_eq!(lists().into_iter().collect::<BTreeSet<Vec<Timestamp>>>().len(), lists().len());
 }
 
 #[test]

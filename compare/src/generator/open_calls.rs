@@ -3,6 +3,7 @@
 use super::random::Random;
 use super::MAX_TICK;
 use crate::interface::Timestamp;
+use std::mem::swap;
 
 const MAX_RATIO: u64 = 1_000_000;
 
@@ -36,6 +37,9 @@ pub fn compare_case(random: &mut Random) -> CompareCase {
     let second_ticks = second_composite(random, ratio, low, &first_ticks);
     let mut first = repeated(random, &first_ticks);
     let mut second = repeated(random, &second_ticks);
+    if random.one_in(2) {
+        swap(&mut first, &mut second);
+    }
     for list in [&mut first, &mut second] {
         if random.one_in(12) {
             move_one(random, ratio, list);

@@ -26,10 +26,11 @@ fn comparisons_reach_every_number_and_reply() {
         let answer = reference::compare(case.ratio, &case.first, &case.second);
         *numbers.entry(answer.number).or_insert(0) += 1;
         if answer.number == 0 {
-            *replies.entry((answer.before, answer.concurrent, answer.weakly_before)).or_insert(0) += 1;
+            *replies.entry((answer.order, answer.weakly_before)).or_insert(0) += 1;
         }
     }
     assert_eq!(numbers.keys().copied().collect::<Vec<u64>>(), [0, 34, 35, 36, 37]);
-    assert_eq!(replies.len(), 4, "{replies:?}");
+    // Incomparable with both; before, after and concurrent each with one.
+    assert_eq!(replies.keys().copied().collect::<Vec<_>>(), [(0, false), (0, true), (1, true), (2, false), (3, true)]);
     assert!(numbers.values().chain(replies.values()).all(|n| *n >= LEAST), "{numbers:?} {replies:?}");
 }

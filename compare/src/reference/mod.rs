@@ -12,5 +12,5 @@ mod work;
 
 pub use listing::{detections, listing, Detection};
 pub use open_calls::{compare, join};
-pub use timestamps::{before, composite_before, composite_concurrent, concurrent, latest, weakly_before};
+pub use timestamps::latest;
 pub use work::work;

@@ -1,8 +1,8 @@
 //! The two open calls, with the refusals 34 to 37.
 
 use super::refusal::{require, Refusal};
-use super::timestamps::{composite_before, composite_concurrent, concurrent, latest, weakly_before};
-use crate::interface::{Comparison, JoinAnswer, Timestamp};
+use super::timestamps::{concurrent, latest, order, weakly_before};
+use crate::interface::{Comparison, JoinAnswer, Order, Timestamp};
 
 const BLANK: Timestamp = Timestamp { logger: 255, tick: 0 };
 const TICKS_END: u64 = 1 << 63;
@@ -61,13 +61,12 @@ pub fn join(ratio: u64, list: &[Timestamp]) -> JoinAnswer {
 
 pub fn compare(ratio: u64, first: &[Timestamp], second: &[Timestamp]) -> Comparison {
     if let Err(Refusal { number, place }) = check_compared(ratio, first, second) {
-        return Comparison { number, place, before: false, concurrent: false, weakly_before: false };
+        return Comparison { number, place, order: Order::Incomparable as u8, weakly_before: false };
     }
     Comparison {
         number: 0,
         place: 0,
-        before: composite_before(ratio, first, second),
-        concurrent: composite_concurrent(ratio, first, second),
+        order: order(ratio, first, second) as u8,
         weakly_before: weakly_before(ratio, first, second),
     }
 }

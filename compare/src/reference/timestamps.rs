@@ -1,6 +1,6 @@
 //! The order of timestamps and of composite timestamps, and the join.
 
-use crate::interface::Timestamp;
+use crate::interface::{Order, Timestamp};
 
 /// The local tick divided by the ratio, rounded down.
 fn global_tick(ratio: u64, s: &Timestamp) -> u64 {
@@ -19,13 +19,26 @@ pub fn concurrent(ratio: u64, s: &Timestamp, t: &Timestamp) -> bool {
     !before(ratio, s, t) && !before(ratio, t, s)
 }
 
+/// The word for two composite timestamps.
+pub fn order(ratio: u64, a: &[Timestamp], b: &[Timestamp]) -> Order {
+    if composite_before(ratio, a, b) {
+        Order::Before
+    } else if composite_before(ratio, b, a) {
+        Order::After
+    } else if composite_concurrent(ratio, a, b) {
+        Order::Concurrent
+    } else {
+        Order::Incomparable
+    }
+}
+
 /// Each timestamp of b has some timestamp of a before it.
-pub fn composite_before(ratio: u64, a: &[Timestamp], b: &[Timestamp]) -> bool {
+fn composite_before(ratio: u64, a: &[Timestamp], b: &[Timestamp]) -> bool {
     b.iter().all(|t| a.iter().any(|s| before(ratio, s, t)))
 }
 
 /// All pairs are concurrent.
-pub fn composite_concurrent(ratio: u64, a: &[Timestamp], b: &[Timestamp]) -> bool {
+fn composite_concurrent(ratio: u64, a: &[Timestamp], b: &[Timestamp]) -> bool {
     a.iter().all(|s| b.iter().all(|t| concurrent(ratio, s, t)))
 }
 

@@ -1,8 +1,8 @@
-//! The examples J1 to J8 and the refusals of the open calls. Ratio 10; 1:80 is `at(1, 80)`.
+//! The examples J1 to J8, the replies and the refusals of the open calls. Ratio 10; 1:80 is `at(1, 80)`.
 
 use crate::comparison::{agreed_comparison, agreed_join};
 use crate::generator::{CompareCase, JoinCase};
-use crate::interface::{Comparison, JoinAnswer, Timestamp};
+use crate::interface::{Comparison, JoinAnswer, Order, Timestamp};
 use crate::reference::latest;
 
 const BLANK: Timestamp = Timestamp { logger: 255, tick: 0 };
@@ -32,12 +32,20 @@ fn join_refused(number: u64, place: u64) -> JoinAnswer {
     JoinAnswer { number, place, timestamps: [BLANK; 8] }
 }
 
-fn compared(before: bool, concurrent: bool, weakly_before: bool) -> Comparison {
-    Comparison { number: 0, place: 0, before, concurrent, weakly_before }
+fn compare_refused(number: u64, place: u64) -> Comparison {
+    Comparison { number, place, order: Order::Incomparable as u8, weakly_before: false }
 }
 
-fn compare_refused(number: u64, place: u64) -> Comparison {
-    Comparison { number, place, before: false, concurrent: false, weakly_before: false }
+/// Compares both ways and wants the word, and of each way whether it is weakly before. Turned round, before is after.
+fn replies(first: &[Timestamp], second: &[Timestamp], order: Order, weakly_before: [bool; 2]) {
+    let turned = match order {
+        Order::Before => Order::After,
+        Order::After => Order::Before,
+        same => same,
+    };
+    let wanted = |order, weakly_before| Comparison { number: 0, place: 0, order: order as u8, weakly_before };
+    assert_eq!(compare(10, first, second), wanted(order, weakly_before[0]), "{first:?} {second:?}");
+    assert_eq!(compare(10, second, first), wanted(turned, weakly_before[1]), "{second:?} {first:?}");
 }
 
 #[test]
@@ -71,10 +79,8 @@ fn j4_any_grouping() {
 }
 
 #[test]
-fn j5_weakly_before_only() {
-    let (first, second) = ([at(1, 80)], [at(2, 90), at(3, 100)]);
-    assert_eq!(compare(10, &first, &second), compared(false, false, true));
-    assert_eq!(compare(10, &second, &first), compared(false, false, false));
+fn j5_incomparable_and_weakly_before() {
+    replies(&[at(1, 80)], &[at(2, 90), at(3, 100)], Order::Incomparable, [true, false]);
 }
 
 #[test]
@@ -95,11 +101,47 @@ fn j8_both_ends() {
 }
 
 #[test]
-fn replies() {
-    assert_eq!(compare(10, &[at(1, 80)], &[at(1, 81)]), compared(true, false, true));
-    assert_eq!(compare(10, &[at(1, 89)], &[at(2, 90)]), compared(false, true, true));
-    assert_eq!(compare(10, &[at(2, 55)], &[at(2, 55), at(2, 55)]), compared(false, true, true));
-    assert_eq!(compare(10, &[at(1, 81)], &[at(1, 80)]), compared(false, false, false));
+fn words_have_their_numbers() {
+    let numbers = [Order::Incomparable, Order::Before, Order::After, Order::Concurrent].map(|order| order as u8);
+    assert_eq!(numbers, [0, 1, 2, 3]);
+}
+
+#[test]
+fn before_and_after() {
+    let is_before = |first: &[Timestamp], second: &[Timestamp]| replies(first, second, Order::Before, [true, false]);
+    is_before(&[at(1, 80)], &[at(1, 81)]);
+    is_before(&[at(1, 89)], &[at(2, 100)]);
+    is_before(&[at(0, 0)], &[at(7, (1 << 63) - 1)]);
+    // Each of two by a timestamp of its own.
+    is_before(&[at(1, 80), at(2, 80)], &[at(1, 81), at(2, 85)]);
+    // One by the same logger, the other by its global tick.
+    is_before(&[at(1, 80)], &[at(1, 90), at(2, 100)]);
+    // A timestamp of the first is before none.
+    is_before(&[at(1, 80), at(2, 80)], &[at(2, 81)]);
+    is_before(&[at(1, 80), at(2, 90)], &[at(1, 90), at(3, 100)]);
+}
+
+#[test]
+fn concurrent() {
+    let are_concurrent = |first: &[Timestamp], second: &[Timestamp]| {
+        replies(first, second, Order::Concurrent, [true, true]);
+    };
+    are_concurrent(&[at(1, 89)], &[at(2, 90)]);
+    are_concurrent(&[at(1, 80)], &[at(2, 99)]);
+    are_concurrent(&[at(2, 55)], &[at(2, 55), at(2, 55)]);
+    are_concurrent(&[at(1, 80), at(2, 95)], &[at(2, 95), at(3, 85)]);
+}
+
+#[test]
+fn incomparable() {
+    let are_incomparable = |first: &[Timestamp], second: &[Timestamp], weakly_before| {
+        replies(first, second, Order::Incomparable, weakly_before);
+    };
+    // Some of the second are later and some concurrent.
+    are_incomparable(&[at(1, 80)], &[at(1, 81), at(2, 80)], [true, false]);
+    // Some are later and some earlier.
+    are_incomparable(&[at(1, 80), at(2, 80)], &[at(1, 81), at(2, 79)], [false, false]);
+    are_incomparable(&[at(1, 80), at(2, 99)], &[at(2, 90), at(3, 100)], [false, false]);
 }
 
 #[test]
@@ -119,6 +161,7 @@ fn join_refusals() {
 fn compare_refusals() {
     let (one, two, bad) = ([at(1, 80)], [at(1, 80), at(1, 81)], [at(1, 80), at(9, 0)]);
     assert_eq!(compare(0, &[], &[]), compare_refused(34, 0));
+    assert_eq!(compare(1_000_001, &one, &[at(1, 81)]), compare_refused(34, 0));
     assert_eq!(compare(10, &[], &bad), compare_refused(35, 0));
     assert_eq!(compare(10, &one, &[]), compare_refused(35, 1));
     assert_eq!(compare(10, &one, &[at(1, 80); 129]), compare_refused(35, 1));

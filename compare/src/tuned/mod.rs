@@ -2,6 +2,7 @@
 //! is worked in place, sets are bits, and a node that an event does not reach costs nothing.
 
 mod bits;
+mod composites;
 mod events;
 mod fixed;
 mod occurrences;

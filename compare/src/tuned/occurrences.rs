@@ -1,36 +1,40 @@
 //! Occurrences. Each timestamp is that of an event, so a composite timestamp is an event for each logger.
 
 use super::bits::{has, Bits};
+use super::composites::{Composite, Span};
 use super::events::Event;
+use crate::interface::Order;
 
 #[derive(Clone, Copy)]
 pub struct Occurrence {
     pub events: u128,
-    /// The lowest and the highest global tick of its timestamps, at most 1 apart.
-    lowest: u64,
-    highest: u64,
+    span: Span,
     /// For each logger that is present, the event that has its timestamp.
     latest: [u8; 8],
-    present: u8,
+}
+
+/// The composite timestamp of an occurrence.
+struct Timestamps<'a> {
+    of: &'a Occurrence,
+    events: &'a [Event],
 }
 
 impl Occurrence {
     #[inline]
     pub fn of_event(number: usize, event: &Event) -> Self {
-        let present = 1 << event.logger;
-        let (lowest, highest) = (event.global, event.global);
-        Occurrence { events: 1 << number, lowest, highest, latest: [number as u8; 8], present }
+        let span = Span { lowest: event.global, highest: event.global, present: 1 << event.logger };
+        Occurrence { events: 1 << number, span, latest: [number as u8; 8] }
     }
 
     /// The loggers of its timestamps.
     #[inline]
     pub fn loggers(&self) -> Bits {
-        Bits(u64::from(self.present))
+        Bits(u64::from(self.span.present))
     }
 
     #[inline]
     pub fn timestamp_count(&self) -> usize {
-        self.present.count_ones() as usize
+        self.span.present.count_ones() as usize
     }
 
     /// The number of the event that has the timestamp of a logger that is present.
@@ -41,41 +45,33 @@ impl Occurrence {
 
     #[inline]
     fn event_if_at(&self, logger: usize) -> Option<usize> {
-        has(u64::from(self.present), logger).then(|| self.event_at(logger))
+        has(u64::from(self.span.present), logger).then(|| self.event_at(logger))
     }
 
-    /// Each timestamp of the other has some timestamp of this one before it. The lowest decides between different
-    /// loggers; where it is of the same logger, its local tick is smaller too.
-    pub fn is_before(&self, other: &Occurrence, events: &[Event]) -> bool {
-        if self.lowest + 1 < other.lowest {
-            return true;
-        }
-        self.lowest <= other.lowest
-            && other.loggers().all(|logger| {
-                let later = &events[other.event_at(logger)];
-                self.lowest + 1 < later.global
-                    || self.event_if_at(logger).is_some_and(|number| events[number].tick < later.tick)
-            })
+    /// The word for the timestamps of both.
+    pub fn order(&self, other: &Occurrence, events: &[Event]) -> Order {
+        Timestamps { of: self, events }.compared(&Timestamps { of: other, events }).0
     }
 
     /// The join of the timestamps of both and the union of their events.
     pub fn joined(&self, other: &Occurrence, events: &[Event]) -> Occurrence {
-        let both = self.events | other.events;
-        if self.highest + 1 < other.lowest {
+        let (a, b, both) = (&self.span, &other.span, self.events | other.events);
+        if a.highest + 1 < b.lowest {
             return Occurrence { events: both, ..*other };
         }
-        if other.highest + 1 < self.lowest {
+        if b.highest + 1 < a.lowest {
             return Occurrence { events: both, ..*self };
         }
-        let highest = self.highest.max(other.highest);
-        let mut joined = Occurrence { events: both, lowest: highest, highest, latest: [0; 8], present: 0 };
-        for logger in Bits(u64::from(self.present | other.present)) {
+        let highest = a.highest.max(b.highest);
+        let span = Span { lowest: highest, highest, present: 0 };
+        let mut joined = Occurrence { events: both, span, latest: [0; 8] };
+        for logger in Bits(u64::from(a.present | b.present)) {
             let number = self.later_at(other, logger, events);
             let global = events[number].global;
             if global + 1 >= highest {
                 joined.latest[logger] = number as u8;
-                joined.present |= 1 << logger;
-                joined.lowest = joined.lowest.min(global);
+                joined.span.present |= 1 << logger;
+                joined.span.lowest = joined.span.lowest.min(global);
             }
         }
         joined
@@ -89,5 +85,22 @@ impl Occurrence {
             (Some(one), _) => one,
             (None, _) => other.event_at(logger),
         }
+    }
+}
+
+impl Composite for Timestamps<'_> {
+    #[inline]
+    fn span(&self) -> &Span {
+        &self.of.span
+    }
+
+    #[inline]
+    fn tick(&self, logger: usize) -> u64 {
+        self.events[self.of.event_at(logger)].tick
+    }
+
+    #[inline]
+    fn is_above(&self, logger: usize, global: u64) -> bool {
+        self.events[self.of.event_at(logger)].global > global
     }
 }

@@ -1,18 +1,18 @@
 //! The two open calls. Only the one timestamp kept for each logger is ever divided.
 
-use super::bits::{has, Bits};
+use super::bits::has;
+use super::composites::{Composite, Span};
 use super::reader::Fault;
-use crate::interface::{Comparison, JoinAnswer, Timestamp};
+use crate::interface::{Comparison, JoinAnswer, Order, Timestamp};
 
 const BLANK: Timestamp = Timestamp { logger: 255, tick: 0 };
 
-/// A composite timestamp.
-struct Composite {
-    present: u64,
+/// The composite timestamp of a list.
+struct Listed {
+    ratio: u64,
+    span: Span,
+    /// For each logger that is present, its local tick.
     ticks: [u64; 8],
-    /// The lowest and the highest global tick, at most 1 apart.
-    lowest: u64,
-    highest: u64,
 }
 
 pub fn join(ratio: u64, list: &[Timestamp]) -> JoinAnswer {
@@ -23,24 +23,19 @@ pub fn join(ratio: u64, list: &[Timestamp]) -> JoinAnswer {
 }
 
 pub fn compare(ratio: u64, first: &[Timestamp], second: &[Timestamp]) -> Comparison {
-    let (mut a, mut b) = (Composite::new(), Composite::new());
-    if let Err(Fault { number, place }) = read_both(ratio, first, second, [&mut a, &mut b]) {
-        return Comparison { number, place: place as u64, before: false, concurrent: false, weakly_before: false };
+    let (mut a, mut b) = (Listed::new(ratio), Listed::new(ratio));
+    if let Err(Fault { number, place }) = read_both(first, second, [&mut a, &mut b]) {
+        let place = place as u64;
+        return Comparison { number, place, order: Order::Incomparable as u8, weakly_before: false };
     }
-    let (is_a_earlier, is_b_earlier) = (a.has_one_before(&b), b.has_one_before(&a));
-    Comparison {
-        number: 0,
-        place: 0,
-        before: is_a_earlier && a.is_before(&b, ratio),
-        concurrent: !is_a_earlier && !is_b_earlier,
-        weakly_before: !is_b_earlier,
-    }
+    let (order, weakly_before) = a.compared(&b);
+    Comparison { number: 0, place: 0, order: order as u8, weakly_before }
 }
 
-fn read_both(ratio: u64, first: &[Timestamp], second: &[Timestamp], [a, b]: [&mut Composite; 2]) -> Result<(), Fault> {
-    check_ratio(ratio)?;
-    a.read(ratio, first, 0)?;
-    b.read(ratio, second, first.len())
+fn read_both(first: &[Timestamp], second: &[Timestamp], [a, b]: [&mut Listed; 2]) -> Result<(), Fault> {
+    check_ratio(a.ratio)?;
+    a.read(first, 0)?;
+    b.read(second, first.len())
 }
 
 fn check_ratio(ratio: u64) -> Result<(), Fault> {
@@ -91,18 +86,18 @@ fn joined(ratio: u64, latest: &[Timestamp; 8]) -> [Timestamp; 8] {
     latest.map(|timestamp| if timestamp.tick < first_kept { BLANK } else { timestamp })
 }
 
-impl Composite {
+impl Listed {
     #[inline]
-    fn new() -> Self {
-        Composite { present: 0, ticks: [0; 8], lowest: u64::MAX, highest: 0 }
+    fn new(ratio: u64) -> Self {
+        Listed { ratio, span: Span { lowest: u64::MAX, highest: 0, present: 0 }, ticks: [0; 8] }
     }
 
     /// Fills a new one from a list.
-    fn read(&mut self, ratio: u64, list: &[Timestamp], first_place: usize) -> Result<(), Fault> {
+    fn read(&mut self, list: &[Timestamp], first_place: usize) -> Result<(), Fault> {
         check_count(list, first_place)?;
         for (place, entry) in (first_place..).zip(list) {
             let logger = check_entry(entry, place)?;
-            if !self.add(ratio, logger, entry.tick) {
+            if !self.add(logger, entry.tick) {
                 return Err(Fault { number: 37, place });
             }
         }
@@ -111,35 +106,36 @@ impl Composite {
 
     /// Adds a timestamp, unless one that it holds is not concurrent with it.
     #[inline]
-    fn add(&mut self, ratio: u64, logger: usize, tick: u64) -> bool {
-        if has(self.present, logger) {
+    fn add(&mut self, logger: usize, tick: u64) -> bool {
+        let span = &mut self.span;
+        if has(u64::from(span.present), logger) {
             return self.ticks[logger] == tick;
         }
-        let global = tick / ratio;
-        let (lowest, highest) = (self.lowest.min(global), self.highest.max(global));
+        let global = tick / self.ratio;
+        let (lowest, highest) = (span.lowest.min(global), span.highest.max(global));
         if lowest + 1 < highest {
             return false;
         }
-        (self.lowest, self.highest) = (lowest, highest);
+        *span = Span { lowest, highest, present: span.present | 1 << logger };
         self.ticks[logger] = tick;
-        self.present |= 1 << logger;
         true
     }
+}
 
-    /// Each timestamp of the other has some timestamp of this one before it.
-    fn is_before(&self, other: &Composite, ratio: u64) -> bool {
-        // The first local tick whose global tick is over the lowest plus 1.
-        let later = (self.lowest + 2) * ratio;
-        Bits(other.present).all(|logger| other.ticks[logger] >= later || self.is_earlier_at(other, logger))
-    }
-
-    /// Some timestamp of this one is before some timestamp of the other.
-    fn has_one_before(&self, other: &Composite) -> bool {
-        self.lowest + 1 < other.highest || Bits(self.present).any(|logger| self.is_earlier_at(other, logger))
+impl Composite for Listed {
+    #[inline]
+    fn span(&self) -> &Span {
+        &self.span
     }
 
     #[inline]
-    fn is_earlier_at(&self, other: &Composite, logger: usize) -> bool {
-        has(self.present & other.present, logger) && self.ticks[logger] < other.ticks[logger]
+    fn tick(&self, logger: usize) -> u64 {
+        self.ticks[logger]
+    }
+
+    /// By the first local tick above, so that nothing is divided again.
+    #[inline]
+    fn is_above(&self, logger: usize, global: u64) -> bool {
+        self.ticks[logger] >= (global + 1) * self.ratio
     }
 }

@@ -6,7 +6,7 @@ use Rattle.sequences.specs.Loops.{fold, loop}
 use Rattle.sequences.specs.Marks.{marked, unmarked, padded}
 use Rattle.sequences.specs.Range.{numbersFrom}
 use Rattle.sequences.specs.Select.{filter, somePasses, eachPasses}
-use Rattle.timestamps.specs.Comparison.{allBefore, allConcurrent, weaklyBefore}
+use Rattle.timestamps.specs.Comparison.{allBefore, allConcurrent, orderNumber, orderOf, relationOf, sameOrder, says, weaklyBefore}
 use Rattle.timestamps.specs.Composite.{members, tickOf, compositeOf}
 use Rattle.timestamps.specs.Examples as stamps
 use Rattle.timestamps.specs.Join.{joinOf, groupJoin}
@@ -14,7 +14,7 @@ use Rattle.timestamps.specs.Maxima.{maxima}
 use Rattle.timestamps.specs.Order.{before, concurrent, clearlyEarlier, globalOf}
 use Rattle.event_sets.specs.Sets.{isSet, has, elements, markedWith, unionOf}
 use Rattle.occurrences.specs.Combination.{combinationOf, combinedOf, eventsOf, stampsOf}
-use Rattle.occurrences.specs.Occurrences.{isBefore, ofEvent}
+use Rattle.occurrences.specs.Occurrences.{isBefore, occurrenceOrder, ofEvent}
 use Rattle.waiting_lists.specs.Waiting.{appendedTo, isFull}
 use Rattle.contexts.specs.Choice.{andCandidates, chosen, removedOf, removes, seqCandidates, takenOf, takes}
 use Rattle.contexts.specs.Made.{madeOf}
@@ -37,15 +37,15 @@ use Rattle.bridge_examples.specs.Examples.{eachWith, holds, limits, oper
 
 -- every row of the table: J1 to J8, D1 to D4
 pub table-holds : eachPasses holds table ≡ true
-unfolding table holds sameWork sameNumbers stamps.table stamps.holds stamps.sameStamps groupJoin concurrent allConcurrent weaklyBefore worked readPlan planAt readPassage passageEvents eventsIn placeIn section entries piece values valueOf runOf numbersByPlace start eventStep closed nodeStep turned turnAt arrivalsOf nodeTurn inputTurn inOrder arrives turnedOf meetingAt sidesOf actionOf operatorOf carriedOut appended appendedTo meetingOf candidatesOf madeBy waitsBy findingsOf emitted emittedAll numberOf findingBytes findingOf sectionBytes each bigEndian rowOf madeOf seqCandidates chosen takenOf takes removedOf removes isFull isBefore ofEvent combinationOf combinedOf eventsOf stampsOf isSet has elements markedWith unionOf before clearlyEarlier globalOf maxima joinOf members tickOf compositeOf allBefore filter somePasses eachPasses numbersFrom marked unmarked padded zipWith fold loop
+unfolding table holds sameWork sameNumbers stamps.table stamps.holds stamps.sameStamps groupJoin concurrent allConcurrent weaklyBefore relationOf worked readPlan planAt readPassage passageEvents eventsIn placeIn section entries piece values valueOf runOf numbersByPlace start eventStep closed nodeStep turned turnAt arrivalsOf nodeTurn inputTurn inOrder arrives turnedOf meetingAt sidesOf actionOf operatorOf carriedOut appended appendedTo meetingOf candidatesOf madeBy waitsBy findingsOf emitted emittedAll numberOf findingBytes findingOf sectionBytes each bigEndian rowOf madeOf seqCandidates chosen takenOf takes removedOf removes isFull isBefore occurrenceOrder orderOf says sameOrder orderNumber ofEvent combinationOf combinedOf eventsOf stampsOf isSet has elements markedWith unionOf before clearlyEarlier globalOf maxima joinOf members tickOf compositeOf allBefore filter somePasses eachPasses numbersFrom marked unmarked padded zipWith fold loop
 table-holds = refl
 
 -- every limit
 pub limits-hold : eachPasses holds limits ≡ true
-unfolding limits sevens eachWith holds sameWork sameNumbers worked readPlan planAt readPassage passageEvents eventsIn placeIn section entries piece values valueOf runOf numbersByPlace start eventStep closed nodeStep turned turnAt arrivalsOf nodeTurn inputTurn inOrder arrives turnedOf meetingAt sidesOf actionOf operatorOf carriedOut appended appendedTo meetingOf candidatesOf madeBy waitsBy findingsOf emitted emittedAll numberOf findingBytes findingOf sectionBytes each bigEndian rowOf madeOf seqCandidates chosen takenOf takes removedOf removes isFull isBefore ofEvent combinationOf combinedOf eventsOf stampsOf isSet has elements markedWith unionOf before clearlyEarlier globalOf maxima joinOf members tickOf compositeOf allBefore filter somePasses eachPasses numbersFrom marked unmarked padded zipWith fold loop
+unfolding limits sevens eachWith holds sameWork sameNumbers worked readPlan planAt readPassage passageEvents eventsIn placeIn section entries piece values valueOf runOf numbersByPlace start eventStep closed nodeStep turned turnAt arrivalsOf nodeTurn inputTurn inOrder arrives turnedOf meetingAt sidesOf actionOf operatorOf carriedOut appended appendedTo meetingOf candidatesOf madeBy waitsBy findingsOf emitted emittedAll numberOf findingBytes findingOf sectionBytes each bigEndian rowOf madeOf seqCandidates chosen takenOf takes removedOf removes isFull isBefore occurrenceOrder orderOf says sameOrder orderNumber ofEvent combinationOf combinedOf eventsOf stampsOf isSet has elements markedWith unionOf before clearlyEarlier globalOf maxima joinOf members tickOf compositeOf allBefore allConcurrent concurrent filter somePasses eachPasses numbersFrom marked unmarked padded zipWith fold loop
 limits-hold = refl
 
 -- what stays and what goes, by operator and context
 pub operators-hold : eachPasses holds operators ≡ true
-unfolding operators holds sameWork sameNumbers joinsBy andCandidates worked readPlan planAt readPassage passageEvents eventsIn placeIn section entries piece values valueOf runOf numbersByPlace start eventStep closed nodeStep turned turnAt arrivalsOf nodeTurn inputTurn inOrder arrives turnedOf meetingAt sidesOf actionOf operatorOf carriedOut appended appendedTo meetingOf candidatesOf madeBy waitsBy findingsOf emitted emittedAll numberOf findingBytes findingOf sectionBytes each bigEndian rowOf madeOf seqCandidates chosen takenOf takes removedOf removes isFull isBefore ofEvent combinationOf combinedOf eventsOf stampsOf isSet has elements markedWith unionOf before clearlyEarlier globalOf maxima joinOf members tickOf compositeOf allBefore filter somePasses eachPasses numbersFrom marked unmarked padded zipWith fold loop
+unfolding operators holds sameWork sameNumbers joinsBy andCandidates worked readPlan planAt readPassage passageEvents eventsIn placeIn section entries piece values valueOf runOf numbersByPlace start eventStep closed nodeStep turned turnAt arrivalsOf nodeTurn inputTurn inOrder arrives turnedOf meetingAt sidesOf actionOf operatorOf carriedOut appended appendedTo meetingOf candidatesOf madeBy waitsBy findingsOf emitted emittedAll numberOf findingBytes findingOf sectionBytes each bigEndian rowOf madeOf seqCandidates chosen takenOf takes removedOf removes isFull isBefore occurrenceOrder orderOf says sameOrder orderNumber ofEvent combinationOf combinedOf eventsOf stampsOf isSet has elements markedWith unionOf before clearlyEarlier globalOf maxima joinOf members tickOf compositeOf allBefore allConcurrent concurrent filter somePasses eachPasses numbersFrom marked unmarked padded zipWith fold loop
 operators-hold = refl

@@ -1,7 +1,7 @@
 -- The comparison call's steps give its answer.
 use mathlib.Core.Path.{_≡_, refl, sym, ap, _∙_}
 use mathlib.Core.Bool.{Bool, true, false, not}
-use mathlib.Core.List.{List, [], _∷_, _++_, append-nil, List·Memᴰ·eq-of-singleton, Memᴰ·append-left, List·Memᴰ·append-cases, Memᴰ·cast}
+use mathlib.Core.List.{List, [], _∷_, _++_, append-nil, List·Memᴰ·head, List·Memᴰ·eq-of-singleton, Memᴰ·append-left, List·Memᴰ·append-cases, Memᴰ·cast}
 use mathlib.Core.Logic.{_⊎_, inl, inr, ⊎-elim}
 use Prim.Native.Nat.{ℕ, suc, max, min, _+_, _^_, _≤_, _<_}
 use native.Mathlib.Decide.{ℕ-discrete, decLt}
@@ -33,7 +33,7 @@ use Rattle.comparisons.proofs.Folds.{gather-next, gather-none, gathered
 use Rattle.comparisons.proofs.Notes.{again-fits, again-in, first-clash, first-fits, noted-first, noted-none, noted-same, other-clash}
 use Rattle.comparisons.proofs.Relations.{relation-is}
 
-abbrev nothingGathered : Gathering
+abbrev pub nothingGathered : Gathering
 nothingGathered = gatheringOf (spanOf noLowest 0) noNotes
 
 -- after a bad entry nothing changes
@@ -129,11 +129,11 @@ module _ (clocks : Clocks) (i : ℕ) (a : Gathering) (s : Timestamp) (earlier : 
     ]
 
 -- ---- a list from its place i on, with the earlier ones gathered; its first place is `place`
-record Gathered (ratio place i : ℕ) (earlier l : List Timestamp) (a : Gathering) : Type 0 where
-  verdict : a .span .verdict ≡ judged ratio earlier (place + i) l .verdict
-  at : refusal (a .span .verdict) ≡ true → place + a .span .place ≡ judged ratio earlier (place + i) l .place
-  most : refusal (a .span .verdict) ≡ true → a .span .place < i + length l
-  noted : refusal (a .span .verdict) ≡ false → NotedList (clocksOf ratio) (earlier ++ l) a
+pub record Gathered (ratio place i : ℕ) (earlier l : List Timestamp) (a : Gathering) : Type 0 where
+  pub verdict : a .span .verdict ≡ judged ratio earlier (place + i) l .verdict
+  pub at : refusal (a .span .verdict) ≡ true → place + a .span .place ≡ judged ratio earlier (place + i) l .place
+  pub most : refusal (a .span .verdict) ≡ true → a .span .place < i + length l
+  pub noted : refusal (a .span .verdict) ≡ false → NotedList (clocksOf ratio) (earlier ++ l) a
 
 module _ (ratio place i : ℕ) (earlier : List Timestamp) (s : Timestamp) (l : List Timestamp) where
   judged-invalid : valid s ≡ false → judged ratio earlier (place + i) (s ∷ l) ≡ record { verdict = BadEntry; place = place + i }
@@ -211,12 +211,18 @@ module _ (ratio place : ℕ) where
   gather-is (s ∷ l) i a earlier k =
       rw (gather-next clocks i a s l) (gather-turn s l i a earlier k (gather-is l (suc i) (gatherStep clocks a s i) (earlier ++ (s ∷ []))))
 
-list-is : (ratio place : ℕ) (l : List Timestamp) → Gathered ratio place 0 [] l (foldGather (clocksOf ratio) 0 nothingGathered l)
+pub list-is : (ratio place : ℕ) (l : List Timestamp) → Gathered ratio place 0 [] l (foldGather (clocksOf ratio) 0 nothingGathered l)
 list-is ratio place l = gather-is ratio place l 0 nothingGathered [] (record { accepted = refl; noted = noted-none (clocksOf ratio) })
 
 length-most : (n : ℕ) → validLength n ≡ true → n ≤ 128
 unfolding validLength
 length-most n h = leb-true n 128 (and-right (leb 1 n) (leb n 128) h)
+
+-- a list of a valid length has a timestamp
+pub some-in : (l : List Timestamp) → validLength (length l) ≡ true → (s : Timestamp) × (s isIn l)
+unfolding validLength
+some-in [] h = absurd (never-both h refl)
+some-in (s ∷ l) h = (s, List·Memᴰ·head refl)
 
 place-fits : (n p : ℕ) → n ≤ 128 → p < 128 → placeAfter n p ≡ n + p
 unfolding placeAfter
@@ -253,7 +259,7 @@ module _ (ratio : ℕ) (a b : List Timestamp) where
     rest = pick (refusal (judged ratio [] (length a) b .verdict))
         (refusedComparison (judged ratio [] (length a) b .verdict) (judged ratio [] (length a) b .place)) (related (relationOf (clocksOf ratio) a b))
 
-    run-second : compareRun ratio a b ≡ compareDone (length a) A B
+    run-second : compareRun ratio a b ≡ compareDone ratio (length a) A B
     unfolding compareRun compareStart joinVerdict afterFirst refusal numberOf
     run-second = rw (r, n, h, m)
 
@@ -264,7 +270,7 @@ module _ (ratio : ℕ) (a b : List Timestamp) where
     verdict-is : B .span .verdict ≡ judged ratio [] (length a) b .verdict
     verdict-is = second-list .verdict ∙ ap (λ p. judged ratio [] p b .verdict) (omega arith)
 
-    second-refused : refusal (B .span .verdict) ≡ true → compareDone (length a) A B ≡ rest
+    second-refused : refusal (B .span .verdict) ≡ true → compareDone ratio (length a) A B ≡ rest
     unfolding compareDone
     second-refused k =
         let x : B .span .place < 0 + length b = second-list .most k in let y : length b ≤ 128 = length-most (length b) m in
@@ -272,9 +278,9 @@ module _ (ratio : ℕ) (a b : List Timestamp) where
         = place-fits (length a) (B .span .place) (length-most (length a) n) (omega arith) ∙ second-list .at k ∙ ap (λ p. judged ratio [] p b .place) (omega arith) in
         rw (← verdict-is, k, p)
 
-    second-accepted : refusal (B .span .verdict) ≡ false → compareDone (length a) A B ≡ rest
+    second-accepted : refusal (B .span .verdict) ≡ false → compareDone ratio (length a) A B ≡ rest
     unfolding compareDone
-    second-accepted k = rw (← verdict-is, k, relation-is (clocksOf ratio) a b A B (first-list .noted h) (second-list .noted k))
+    second-accepted k = rw (← verdict-is, k, relation-is ratio a b A B (first-list .noted h) (second-list .noted k) (some-in a n .1))
 
     both-walked : compareRun ratio a b ≡ compareAnswer ratio a b
     both-walked = run-second ∙ ⊎-elim second-refused second-accepted (either-way (refusal (B .span .verdict))) ∙ sym answer-second

@@ -3,3 +3,4 @@ pub mod Folds
 pub mod GatherWalk
 pub mod Notes
 pub mod Relations
+pub mod Theorems

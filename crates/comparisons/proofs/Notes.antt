@@ -18,7 +18,7 @@ use Rattle.timestamps.specs.declared.Timestamp.{Timestamp}
 use Rattle.timestamps.specs.Order.{Clocks, before, concurrent, globalOf, largestTick, valid}
 use Rattle.timestamps.proofs.Composite.{same-stamp}
 use Rattle.timestamps.proofs.Groupings.{valid-place, valid-tick}
-use Rattle.timestamps.proofs.Order.{before-one, before-two, clear-before, global-small}
+use Rattle.timestamps.proofs.Stamps.{before-one, before-two, clear-before, global-small}
 use Rattle.open_calls.specs.Notes.{localNote, noteAt}
 use Rattle.comparisons.specs.declared.Gathering.{Gathering}
 use Rattle.comparisons.specs.Notes.{NotedList, NotedIn, gatheringOf, noLowest, noNotes, notedAt, notedDown, spanOf, widenedBy}
@@ -48,7 +48,7 @@ module _ (clocks : Clocks) where
 
   module _ (l : List Timestamp) (a : Gathering) (n : NotedList clocks l a) where
     -- no two are clearly apart
-    apart : (s t : Timestamp) → s isIn l → t isIn l → before clocks s t ≡ false
+    pub apart : (s t : Timestamp) → s isIn l → t isIn l → before clocks s t ≡ false
     apart s t i j = elim (ℕ-discrete (s .logger) (t .logger)) [
       | yes e ↦ before-one clocks s t e ∙ le-ltb (s .tick .0) (t .tick .0)
           (let f : localNote s ≡ localNote t = sym (n .each s i .local) ∙ ap (noteAt (a .notes)) e ∙ n .each t j .local in omega arith)

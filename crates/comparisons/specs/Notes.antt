@@ -1,6 +1,6 @@
 -- What is noted of a list, and what the comparison computes from it. Readers of the promises need none of these: the laws tie them to the answer.
 -- At a logger place stands the note of a local tick, 0 where there is none; eight places on stands the global tick itself.
-use mathlib.Core.Bool.{true, not, _&&_, _||_}
+use mathlib.Core.Bool.{Bool, true, not, _&&_, _||_}
 use mathlib.Core.List.{List}
 use mathlib.Core.Path.{_≡_}
 use Prim.Native.Nat.{ℕ, max, min, _+_, _-_, _≤_, _<_}
@@ -9,16 +9,20 @@ use lib.ListN.{length, replicate, set}
 use Rattle.sequences.specs.Choice.{pick}
 use Rattle.sequences.specs.Loops.{fold}
 use Rattle.sequences.specs.Members.{_isIn_}
+use Rattle.sequences.specs.Select.{eachPasses}
 use Rattle.timestamps.specs.declared.GlobalTick.{GlobalTick}
 use Rattle.timestamps.specs.declared.LocalTick.{LocalTick}
+use Rattle.timestamps.specs.declared.Order.{Order}
+use Rattle.timestamps.specs.declared.Order.the-variants.{Incomparable, Before, After, Concurrent}
 use Rattle.timestamps.specs.declared.Relation.{Relation}
 use Rattle.timestamps.specs.declared.Timestamp.{Timestamp}
 use Rattle.timestamps.specs.Composite.{loggerPlaces}
-use Rattle.timestamps.specs.Order.{Clocks, clearlyEarlier, globalOf}
+use Rattle.timestamps.specs.Order.{Clocks, clearlyEarlier, globalOf, quotient}
 use Rattle.open_calls.specs.declared.Verdict.the-variants.{Accepted}
 use Rattle.open_calls.specs.Notes.{localNote, noteAt}
 use Rattle.comparisons.specs.declared.Gathering.{Gathering}
 use Rattle.comparisons.specs.declared.Around.{Around}
+use Rattle.comparisons.specs.declared.Replies.{Replies}
 use Rattle.comparisons.specs.declared.Span.{Span}
 
 -- the tick of a note
@@ -76,19 +80,43 @@ aroundOf a own t g = record {
   later = clearlyEarlier g (a .highest) || (ltb 0 own && ltb (t .0) (tickOf own .0));
 }
 
--- a relation with one timestamp more of the second list, which the first has met
-abbrev pub relatedBy : Relation → Around → Relation
+-- the replies with one timestamp more of the second list, which the first has met
+abbrev pub relatedBy : Replies → Around → Replies
 relatedBy r m = record {
   before = r .before && m .earlier;
   concurrent = r .concurrent && (not (m .earlier) && not (m .later));
   «weakly_before» = r .«weakly_before» && not (m .later);
 }
 
-unfoldable pub relatedAt : Span → ℕ → ℕ → ℕ → Relation → Relation
+unfoldable pub relatedAt : Span → ℕ → ℕ → ℕ → Replies → Replies
 relatedAt a own note g r = pick (eqb note 0) r (relatedBy r (aroundOf a own (tickOf note) (record { 0 = g })))
 
-abbrev pub allRelated : Relation
+abbrev pub allRelated : Replies
 allRelated = record { before = true; concurrent = true; «weakly_before» = true }
 
-unfoldable pub relatedNotes : Span → List ℕ → List ℕ → Relation
+unfoldable pub relatedNotes : Span → List ℕ → List ℕ → Replies
 relatedNotes a first second = fold (λ r k. relatedAt a (noteAt first k) (noteAt second k) (noteAt second (k + 8)) r) loggerPlaces allRelated
+
+-- ---- the word
+-- a timestamp with a note has one before it: the one with the note `own` of its logger, or the one of the lowest global tick
+unfoldable pub hasEarlier : ℕ → GlobalTick → ℕ → ℕ → Bool
+hasEarlier ratio low own note =
+    pick (eqb note 0) true
+    (pick (ltb 0 own && ltb (tickOf own .0) (tickOf note .0)) true (clearlyEarlier low (quotient ratio (tickOf note))))
+
+unfoldable pub eachHasEarlier : ℕ → GlobalTick → List ℕ → List ℕ → Bool
+eachHasEarlier ratio low first second = eachPasses (λ k. hasEarlier ratio low (noteAt first k) (noteAt second k)) loggerPlaces
+
+-- the first that holds; `low` is the second list's lowest
+unfoldable pub orderNoted : ℕ → Replies → GlobalTick → List ℕ → List ℕ → Order
+orderNoted ratio r low first second =
+    pick (r .before) Before
+    (pick (r .concurrent) Concurrent
+    (pick (r .«weakly_before») Incomparable
+    (pick (eachHasEarlier ratio low second first) After Incomparable)))
+
+unfoldable pub relationNoted : ℕ → Gathering → Gathering → Relation
+relationNoted ratio a b = record {
+  order = orderNoted ratio (relatedNotes (a .span) (a .notes) (b .notes)) (b .span .lowest) (a .notes) (b .notes);
+  «weakly_before» = relatedNotes (a .span) (a .notes) (b .notes) .«weakly_before»;
+}

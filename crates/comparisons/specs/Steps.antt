@@ -16,7 +16,7 @@ use Rattle.comparisons.specs.declared.CompareStart.{CompareStart}
 use Rattle.comparisons.specs.declared.Gathering.{Gathering}
 use Rattle.comparisons.specs.declared.Span.{Span}
 use Rattle.comparisons.specs.Answers.{refusedComparison, related}
-use Rattle.comparisons.specs.Notes.{gatheringOf, noLowest, noNotes, notedDown, relatedNotes, spanOf, widenedBy}
+use Rattle.comparisons.specs.Notes.{gatheringOf, noLowest, noNotes, notedDown, relationNoted, spanOf, widenedBy}
 
 unfoldable pub compareStart : Verdict → ℕ → CompareStart
 compareStart v place = record { stop = refusal v; answer = refusedComparison v place; span = spanOf noLowest 0 }
@@ -58,10 +58,10 @@ afterFirst a n m =
     pick (refusal (a .span .verdict)) (compareStart (a .span .verdict) (a .span .place))
     (pick (validLength m) (compareStart Accepted 0) (compareStart BadLength n))
 
-unfoldable pub compareDone : ℕ → Gathering → Gathering → Comparison
-compareDone n a b =
+unfoldable pub compareDone : ℕ → ℕ → Gathering → Gathering → Comparison
+compareDone ratio n a b =
     pick (refusal (b .span .verdict)) (refusedComparison (b .span .verdict) (placeAfter n (b .span .place)))
-    (related (relatedNotes (a .span) (a .notes) (b .notes)))
+    (related (relationNoted ratio a b))
 
 -- ---- call by call
 abbrev pub firstOf : ℕ → List Timestamp → Gathering
@@ -74,4 +74,4 @@ unfoldable pub compareRun : ℕ → List Timestamp → List Timestamp → Compar
 compareRun ratio a b =
     pick (compareStart (joinVerdict ratio (length a)) 0 .stop) (compareStart (joinVerdict ratio (length a)) 0 .answer)
     (pick (secondStart ratio a b .stop) (secondStart ratio a b .answer)
-    (compareDone (length a) (firstOf ratio a) (foldGather (clocksOf ratio) 0 (gatheringOf (secondStart ratio a b .span) noNotes) b)))
+    (compareDone ratio (length a) (firstOf ratio a) (foldGather (clocksOf ratio) 0 (gatheringOf (secondStart ratio a b .span) noNotes) b)))

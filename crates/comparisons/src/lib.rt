@@ -1,23 +1,25 @@
 // The comparison of two lent lists of timestamps, one of the two calls that stand open to any caller.
 ghost use mathlib.Core.Path.{_≡_};
 ghost use mathlib.Core.Bool.{true, _||_, _&&_};
+ghost use lib.Dec.{ltb};
 ghost use Rattle.timestamps.specs.Order.{clearlyEarlier, clocksOf, valid};
 ghost use Rattle.open_calls.specs.Steps.{joinVerdict};
 ghost use Rattle.comparisons.specs.Answers.{compareAnswer, refusedComparison};
-ghost use Rattle.comparisons.specs.Notes.{aroundOf, gatheringOf, noNotes, notedDown, relatedAt, relatedNotes, widenedBy};
+ghost use Rattle.comparisons.specs.Notes.{aroundOf, eachHasEarlier, gatheringOf, hasEarlier, noNotes, notedDown, orderNoted, relatedAt, relatedNotes, relationNoted, tickOf, widenedBy};
 ghost use Rattle.comparisons.specs.Steps.{afterFirst, compareDone, compareStart, firstGathered, foldGather, gatherStep, gathered, judgedAs, placeAfter};
 use open_calls::Verdict;
 use timestamps::GlobalTick;
 use timestamps::LocalTick;
+use timestamps::Order;
 use timestamps::Relation;
 use timestamps::Timestamp;
 
+// The word by its number (timestamps, `Order`), and whether the first is weakly before the second.
 #[repr(C)]
 pub struct Comparison {
     pub number: u64,
     pub place: u64,
-    pub before: bool,
-    pub concurrent: bool,
+    pub order: u8,
     pub weakly_before: bool,
 }
 
@@ -25,11 +27,11 @@ fn refused_comparison(v: Verdict, place: u64) -> Comparison
     ensures { λ r. ⌜ r ≡ refusedComparison v place ⌝ }
 {
     let number = v.number();
+    let order = Order::Incomparable;
     Comparison {
         number: number,
         place: place,
-        before: false,
-        concurrent: false,
+        order: order.number(),
         weakly_before: false,
     }
 }
@@ -56,6 +58,13 @@ pub struct Gathering {
 struct Around {
     earlier: bool,
     later: bool,
+}
+
+// What the second list's timestamps tell: whether the first is before it, concurrent with it, weakly before it.
+struct Replies {
+    before: bool,
+    concurrent: bool,
+    weakly_before: bool,
 }
 
 // Before a list is walked: turned back at once, or nothing gathered yet.
@@ -140,7 +149,7 @@ fn gather(a: Span, notes: &mut ListNotes, s: Timestamp, i: usize, ratio: u64) ->
     }
 }
 
-// The first of its logger, with the one division for it. All before it are of other loggers: no global tick may be clearly earlier than another.
+// The first of its logger, for which it is divided. All before it are of other loggers: no global tick may be clearly earlier than another.
 fn gather_first(a: Span, notes: &mut ListNotes, s: Timestamp, i: usize, ratio: u64) -> Span
     requires { ⌜ valid s ≡ true ⌝ }
     ensures { λ r. ⌜ gatheringOf r (now (notes .exit)) ≡ firstGathered (clocksOf ratio) (gatheringOf a (now (notes .entry))) s i ⌝ }
@@ -274,7 +283,7 @@ fn around_of(own: u64, t: LocalTick, g: GlobalTick, a: Span) -> Around
 }
 
 // One logger place more: the second list's note there, and its global tick.
-fn relate_at(r: Relation, own: u64, note: u64, g: u64, a: Span) -> Relation
+fn relate_at(r: Replies, own: u64, note: u64, g: u64, a: Span) -> Replies
     ensures { λ q. ⌜ q ≡ relatedAt a own note g r ⌝ }
 {
     if note == 0 {
@@ -287,7 +296,7 @@ fn relate_at(r: Relation, own: u64, note: u64, g: u64, a: Span) -> Relation
     let before = both(r.before, m.earlier);
     let concurrent = both(r.concurrent, neither);
     let weakly = both(r.weakly_before, !m.later);
-    Relation {
+    Replies {
         before: before,
         concurrent: concurrent,
         weakly_before: weakly,
@@ -295,10 +304,10 @@ fn relate_at(r: Relation, own: u64, note: u64, g: u64, a: Span) -> Relation
 }
 
 // How the first list stands to the second, place by place of the second.
-fn relate(a: Span, first: ListNotes, second: ListNotes) -> Relation
+fn relate(a: Span, first: ListNotes, second: ListNotes) -> Replies
     ensures { λ r. ⌜ r ≡ relatedNotes a first second ⌝ }
 {
-    let mut r = Relation {
+    let mut r = Replies {
         before: true,
         concurrent: true,
         weakly_before: true,
@@ -311,24 +320,97 @@ fn relate(a: Span, first: ListNotes, second: ListNotes) -> Relation
     r
 }
 
-pub fn compare_done(a: Gathering, b: Gathering, n: usize) -> Comparison
-    ensures { λ r. ⌜ r ≡ compareDone n a b ⌝ }
+// Whether a timestamp of one list, by its note, has one of the other list before it: that with the note `own` of its logger, or the lowest global tick.
+// Where the local ticks do not tell, its global tick is divided for once more: to keep those of the first list takes longer than the rare division.
+fn has_earlier(low: GlobalTick, own: u64, note: u64, ratio: u64) -> bool
+    ensures { λ r. ⌜ r ≡ hasEarlier ratio low own note ⌝ }
 {
-    let span = a.span;
+    if note == 0 {
+        return true;
+    }
+    let t = LocalTick(note - 1);
+    if is_earlier(own, t) {
+        return true;
+    }
+    let g = t.global(ratio);
+    low.clearly_earlier(g)
+}
+
+// The tick of a note, if there is one, is earlier than t.
+fn is_earlier(note: u64, t: LocalTick) -> bool
+    ensures { λ r. ⌜ r ≡ (ltb 0 note && ltb (tickOf note .0) (t .0)) ⌝ }
+{
+    if note == 0 {
+        return false;
+    }
+    let s = LocalTick(note - 1);
+    s.earlier(t)
+}
+
+// Whether each timestamp of the list with the notes `second` has one before it of the list with the notes `first`, whose lowest global tick is `low`.
+fn each_has_earlier(low: GlobalTick, first: ListNotes, second: ListNotes, ratio: u64) -> bool
+    ensures { λ r. ⌜ r ≡ eachHasEarlier ratio low first second ⌝ }
+{
+    let mut k: usize = 0;
+    while k < 8 {
+        if !has_earlier(low, first[k], second[k], ratio) {
+            return false;
+        }
+        k = k + 1;
+    }
+    true
+}
+
+// The word. The places of the first list are looked at only where the second has a timestamp before one of them.
+fn order_of(r: Replies, low: GlobalTick, first: ListNotes, second: ListNotes, ratio: u64) -> Order
+    ensures { λ w. ⌜ w ≡ orderNoted ratio r low first second ⌝ }
+{
+    if r.before {
+        return Order::Before;
+    }
+    if r.concurrent {
+        return Order::Concurrent;
+    }
+    if r.weakly_before {
+        return Order::Incomparable;
+    }
+    if each_has_earlier(low, second, first, ratio) {
+        Order::After
+    } else {
+        Order::Incomparable
+    }
+}
+
+// The comparison of two lists that were gathered whole.
+fn relation_of(a: Gathering, b: Gathering, ratio: u64) -> Relation
+    ensures { λ r. ⌜ r ≡ relationNoted ratio a b ⌝ }
+{
+    let first = a.notes;
+    let second = b.notes;
+    let span = b.span;
+    let r = relate(a.span, first, second);
+    let order = order_of(r, span.lowest, first, second, ratio);
+    Relation {
+        order: order,
+        weakly_before: r.weakly_before,
+    }
+}
+
+pub fn compare_done(a: Gathering, b: Gathering, n: usize, ratio: u64) -> Comparison
+    ensures { λ r. ⌜ r ≡ compareDone ratio n a b ⌝ }
+{
     let last = b.span;
     let v = last.verdict;
     if v.is_refusal() {
         let place = place_after(n, last.place);
         refused_comparison(v, place)
     } else {
-        let first = a.notes;
-        let second = b.notes;
-        let r = relate(span, first, second);
+        let r = relation_of(a, b, ratio);
+        let order = r.order;
         Comparison {
             number: 0,
             place: 0,
-            before: r.before,
-            concurrent: r.concurrent,
+            order: order.number(),
             weakly_before: r.weakly_before,
         }
     }
@@ -350,7 +432,7 @@ pub fn compare(ratio: u64, first: &[Timestamp], second: &[Timestamp]) -> Compari
         return middle.answer;
     }
     let b = fold_second(middle.span, second, ratio);
-    compare_done(a, b, n)
+    compare_done(a, b, n, ratio)
 }
 
 fn either(a: bool, b: bool) -> bool

@@ -19,7 +19,7 @@ use Rattle.timestamps.proofs.Maxima.{maxima-in, maxima-of, maxima-reach}
 use Rattle.timestamps.specs.Order.{Clocks}
 use Rattle.occurrences.specs.declared.Occurrence.{Occurrence}
 use Rattle.occurrences.specs.Occurrences.{isBefore}
-use Rattle.occurrences.proofs.Order.{before-carries, not-before-itself}
+use Rattle.occurrences.proofs.Orders.{before-carries, not-before-itself}
 use Rattle.contexts.specs.Choice.{andCandidates, chosen, removedOf, removes, seqCandidates, takenOf, takes}
 use Rattle.contexts.specs.Table.{Taken, latest, earliest, every, Removed, untaken, taken, all, Context, recent}
 

@@ -1,5 +1,5 @@
 -- What each function's steps come to.
-use mathlib.Core.Path.{_≡_, refl, sym, ap, ap₂, subst, _∙_}
+use mathlib.Core.Path.{_≡_, refl, sym, ap, subst, _∙_}
 use mathlib.Core.Bool.{Bool, true, false, not, _&&_, and-false}
 use mathlib.Core.List.{List, [], _∷_, map, zipWith}
 use Prim.Native.Nat.{ℕ, zero, suc, _+_, _≤_, _<_}
@@ -18,12 +18,15 @@ use Rattle.sequences.proofs.Arrays.{getD-zip, length-zip}
 use Rattle.sequences.proofs.Parts.{getD-map}
 use Rattle.sequences.proofs.Marks.{any-marked-no, any-marked-yes, fold-marked, padded-start}
 use Rattle.sequences.proofs.Select.{any-none}
+use Rattle.timestamps.specs.declared.Order.{Order}
+use Rattle.timestamps.specs.declared.Order.the-variants.{Before, After}
+use Rattle.timestamps.specs.Comparison.{sameOrder}
 use Rattle.timestamps.specs.Composite.{IsComposite, members}
 use Rattle.timestamps.specs.Order.{Clocks}
 use Rattle.occurrences.specs.declared.Occurrence.{Occurrence}
-use Rattle.occurrences.specs.Occurrences.{noOccurrence, isBefore}
-use Rattle.occurrences.specs.Steps.{Decided, LowestOf}
-use Rattle.occurrences.proofs.Order.{not-before-itself}
+use Rattle.occurrences.specs.Occurrences.{isBefore, noOccurrence, occurrenceOrder}
+use Rattle.occurrences.specs.Steps.{LowestOf}
+use Rattle.occurrences.proofs.Orders.{after-turned, not-before-itself}
 use Rattle.occurrences.proofs.Steps.{next-place}
 use Rattle.waiting_lists.specs.declared.WaitingList.{WaitingList}
 use Rattle.waiting_lists.specs.Lists.{listOf, placeIn}
@@ -31,7 +34,7 @@ use Rattle.waiting_lists.specs.Marks.{marksOf}
 use Rattle.waiting_lists.proofs.Marks.{length-marks, marks-and, marks-less, marks-turn, padded-next}
 use Rattle.contexts.specs.declared.Row.{Row}
 use Rattle.contexts.specs.Choice.{andCandidates, chosen, removedOf, removes, takenOf, takes}
-use Rattle.contexts.specs.Steps.{Lows, barsOf}
+use Rattle.contexts.specs.Steps.{Lows, barsBy, barsOf}
 use Rattle.contexts.specs.Table.{Taken, latest, earliest, every, each, together, untaken, taken, all, joins, consumed, Context, takesOf, findsOf, removesOf, afterwardsOf, contextOf}
 
 -- ---- codes
@@ -76,26 +79,26 @@ unmarked-off b x e = rw (not-true b e)
 pub marked-on : (b x r : Bool) → not b ≡ false → r ≡ x → r ≡ (b && x)
 marked-on b x r e f = rw (not-false b e) f
 
--- what a rule's code means of two
-module _ (code : ℕ) (clocks : Clocks) (w c : Occurrence) where
-  pub bars-latest : code ≡ 0 → barsOf (takesOf code) clocks w c ≡ isBefore clocks w c
-  unfolding barsOf
+-- what a rule's code makes of a word
+module _ (code : ℕ) (word : Order) where
+  pub bars-latest : code ≡ 0 → barsBy (takesOf code) word ≡ sameOrder word Before
+  unfolding barsBy
   bars-latest e = rw (code-latest code e)
 
-  pub bars-earliest : (code ≡ 0 → ⊥) → code ≡ 1 → barsOf (takesOf code) clocks w c ≡ isBefore clocks c w
-  unfolding barsOf
+  pub bars-earliest : (code ≡ 0 → ⊥) → code ≡ 1 → barsBy (takesOf code) word ≡ sameOrder word After
+  unfolding barsBy
   bars-earliest n e = rw (code-earliest code n e)
 
-  pub bars-every : (code ≡ 0 → ⊥) → (code ≡ 1 → ⊥) → barsOf (takesOf code) clocks w c ≡ false
-  unfolding barsOf
+  pub bars-every : (code ≡ 0 → ⊥) → (code ≡ 1 → ⊥) → barsBy (takesOf code) word ≡ false
+  unfolding barsBy
   bars-every n o = rw (code-every code n o)
 
--- 1 for yes and 0 for no
-pub decided-is : (d : ℕ) (t : Bool) → d < 2 → Decided t d → eqb d 1 ≡ t
-decided-is d t h e = elim (ℕ-discrete d 1) [
-  | yes q ↦ eq-eqb d 1 q ∙ sym (e .yes q)
-  | no q ↦ ne-eqb d 1 q ∙ sym (e .no (omega (arith, h, q)))
-]
+-- the word of w to c tells whether c keeps w from being taken
+pub word-tells : (t : Taken) (clocks : Clocks) (w c : Occurrence) → IsComposite clocks (members (w .latest)) → barsBy t (occurrenceOrder clocks w c) ≡ barsOf t clocks w c
+unfolding barsBy barsOf isBefore
+word-tells latest clocks w c h = refl
+word-tells earliest clocks w c h = after-turned clocks w c h
+word-tells every clocks w c h = refl
 
 -- the lowest of one more
 pub lows-turn : (globals : List ℕ) (w : List (List ℕ)) (lows : List ℕ) (list : WaitingList) (i place v : ℕ) → list ≡ listOf w → place ≡ placeIn (list .order) i + 1 → i < length lows

@@ -1,7 +1,6 @@
 -- Document 01, "How an event is worked": candidates, and which of them a context takes and removes. Marks stand beside the waiting occurrences, one for each of 16 places.
 use mathlib.Core.Bool.{Bool, true, not, _&&_}
 use mathlib.Core.List.{List, map, zipWith}
-use Prim.Native.Nat.{ℕ}
 use Rattle.sequences.specs.Marks.{marked, padded}
 use Rattle.sequences.specs.Select.{somePasses}
 use Rattle.timestamps.specs.Order.{Clocks}
@@ -9,7 +8,7 @@ use Rattle.occurrences.specs.declared.Occurrence.{Occurrence}
 use Rattle.occurrences.specs.Occurrences.{isBefore}
 use Rattle.contexts.specs.Table.{Taken, latest, earliest, every, Removed, untaken, taken, all, Context}
 
--- SEQ: the candidates are the waiting occurrences whose stamp is before the arrival's
+-- SEQ: the candidates are the waiting occurrences whose stamp is before the arrival's; as in the choice below, the word of the comparison tells it
 unfoldable pub seqCandidates : Clocks → List Occurrence → Occurrence → List Bool
 seqCandidates clocks waiting o = padded 16 (map (λ w. isBefore clocks w o) waiting)
 

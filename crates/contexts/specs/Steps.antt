@@ -3,6 +3,9 @@ use mathlib.Core.Bool.{Bool, false}
 use mathlib.Core.List.{List, []}
 use Prim.Native.Nat.{ℕ, _+_, _<_}
 use lib.ListN.{getD}
+use Rattle.timestamps.specs.declared.Order.{Order}
+use Rattle.timestamps.specs.declared.Order.the-variants.{Before, After}
+use Rattle.timestamps.specs.Comparison.{sameOrder}
 use Rattle.timestamps.specs.Order.{Clocks}
 use Rattle.occurrences.specs.declared.Occurrence.{Occurrence}
 use Rattle.occurrences.specs.Occurrences.{isBefore}
@@ -15,6 +18,12 @@ unfoldable pub barsOf : Taken → Clocks → Occurrence → Occurrence → Bool
 barsOf latest clocks w c = isBefore clocks w c
 barsOf earliest clocks w c = isBefore clocks c w
 barsOf every clocks w c = false
+
+-- the same by the word for how w stands to c
+unfoldable pub barsBy : Taken → Order → Bool
+barsBy latest word = sameOrder word Before
+barsBy earliest word = sameOrder word After
+barsBy every word = false
 
 -- the lowest global tick of each of the first n that wait
 abbrev pub Lows : List ℕ → List (List ℕ) → ℕ → List ℕ → Type 0

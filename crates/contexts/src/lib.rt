@@ -1,10 +1,11 @@
 // What each context takes, makes and removes: document 01's table of four rows, the choice, and what is made of those taken.
 use occurrences::Packed;
 use timestamps::GlobalTick;
+use timestamps::Order;
 ghost use mathlib.Core.Bool.{_&&_, false, not, true};
-ghost use mathlib.Core.List.{List, []};
+ghost use mathlib.Core.List.{List};
 ghost use mathlib.Core.Path.{_≡_};
-ghost use Prim.Native.Nat.{ℕ, _<_, _≤_};
+ghost use Prim.Native.Nat.{_<_, _≤_};
 ghost use lib.Dec.{eqb};
 ghost use lib.ListN.{getD, length};
 ghost use Rattle.sequences.specs.Loops.{fold};
@@ -12,13 +13,13 @@ ghost use Rattle.sequences.specs.Marks.{marked};
 ghost use Rattle.sequences.specs.Select.{somePasses};
 ghost use Rattle.occurrences.specs.declared.Occurrence.{Occurrence};
 ghost use Rattle.occurrences.specs.Combination.{combinedOf};
-ghost use Rattle.occurrences.specs.Occurrences.{noOccurrence, isBefore};
+ghost use Rattle.occurrences.specs.Occurrences.{noOccurrence};
 ghost use Rattle.occurrences.specs.Packed.{Notes, Stands, Within};
-ghost use Rattle.occurrences.specs.Steps.{Decided, LowestOf};
+ghost use Rattle.occurrences.specs.Steps.{LowestOf};
 ghost use Rattle.waiting_lists.specs.Lists.{Arrives, Known, Waits, listOf};
 ghost use Rattle.waiting_lists.specs.Marks.{marksOf};
 ghost use Rattle.contexts.specs.Choice.{andCandidates, chosen, removedOf, seqCandidates, takenOf, takes};
-ghost use Rattle.contexts.specs.Steps.{Lows, barsOf};
+ghost use Rattle.contexts.specs.Steps.{Lows, barsBy, barsOf};
 ghost use Rattle.contexts.specs.Table.{consumed, contextOf, each, joins, recent, removesOf, rowOf, table, takesOf, together};
 
 // ---- the table
@@ -109,28 +110,6 @@ pub fn row_of(context: u64) -> Row
 
 // ---- candidates
 
-// Whether the first is before the second; beside each its lowest global tick, which mostly decides it.
-fn comes_before(
-    low: GlobalTick,
-    first: GlobalTick,
-    a: &Packed,
-    b: &Packed,
-    ticks: &[u64],
-    globals: &[u64],
-) -> bool
-    requires { ⌜ Within (now ticks) (now globals) (now a) × Within (now ticks) (now globals) (now b) ⌝ }
-    ensures { λ r. ⌜ ((t : Notes (now (ticks .entry)) (now (globals .entry))) (x y : Occurrence)
-        → LowestOf (now (globals .entry)) (now (a .entry)) (low .0) → LowestOf (now (globals .entry)) (now (b .entry)) (first .0)
-        → Stands t (now (a .entry)) x → Stands t (now (b .entry)) y
-        → r ≡ isBefore (t .clocks) x y) ⌝ }
-{
-    let d = occurrences::decided(low, first);
-    if d < 2 {
-        return d == 1;
-    }
-    occurrences::before(low, a, b, ticks, globals)
-}
-
 // SEQ: those whose timestamp is before the arrival's.
 pub fn before_arrival(list: &[Packed], o: &Packed, ticks: &[u64], globals: &[u64]) -> u64
     requires { ⌜ Arrives (now ticks) (now globals) (now list) (now o) ⌝ }
@@ -146,8 +125,8 @@ pub fn before_arrival(list: &[Packed], o: &Packed, ticks: &[u64], globals: &[u64
     while i < n {
         let place = waiting_lists::place_at(waiting, i);
         let low = occurrences::lowest(&list[place], globals);
-        let is = comes_before(low, first, &list[place], o, ticks, globals);
-        marks = waiting_lists::with_mark(marks, i, is);
+        let word = occurrences::order(low, &list[place], first, o, ticks, globals);
+        marks = waiting_lists::with_mark(marks, i, word.is(Order::Before));
         i = i + 1;
     }
     marks
@@ -189,43 +168,16 @@ fn lows_of(list: &[Packed], ticks: &[u64], globals: &[u64], lows: &mut LowestTic
     }
 }
 
-// Whether c keeps w from being taken, place by place; beside each its lowest global tick.
-fn bars_by_place(
-    rule: u8,
-    low: GlobalTick,
-    w: &Packed,
-    other: GlobalTick,
-    c: &Packed,
-    ticks: &[u64],
-    globals: &[u64],
-) -> bool
-    requires { ⌜ Within (now ticks) (now globals) (now w) × Within (now ticks) (now globals) (now c) ⌝ }
-    ensures { λ r. ⌜ ((t : Notes (now (ticks .entry)) (now (globals .entry))) (x y : Occurrence)
-        → LowestOf (now (globals .entry)) (now (w .entry)) (low .0) → LowestOf (now (globals .entry)) (now (c .entry)) (other .0)
-        → Stands t (now (w .entry)) x → Stands t (now (c .entry)) y
-        → r ≡ barsOf (takesOf rule) (t .clocks) x y) ⌝ }
+// Whether the word for how one candidate stands to another keeps it from being taken: before where the latest are taken, after where the earliest are.
+fn word_bars(rule: u8, word: Order) -> bool
+    ensures { λ r. ⌜ r ≡ barsBy (takesOf rule) word ⌝ }
 {
     if rule == Row::LATEST {
-        occurrences::before(low, w, c, ticks, globals)
+        word.is(Order::Before)
     } else if rule == Row::EARLIEST {
-        occurrences::before(other, c, w, ticks, globals)
+        word.is(Order::After)
     } else {
         false
-    }
-}
-
-// Whether their lowest global ticks decide it: 1 where c keeps w from being taken, 0 where it does not, 2 where every place has to be looked at.
-fn bars_decided(rule: u8, low: GlobalTick, other: GlobalTick) -> u8
-    ensures { λ r. ⌜ ((ticks globals w c : List ℕ) (t : Notes ticks globals) (x y : Occurrence) → Stands t w x → Stands t c y
-        → LowestOf globals w (low .0) → LowestOf globals c (other .0)
-        → Decided (barsOf (takesOf rule) (t .clocks) x y) r) ⌝ }
-{
-    if rule == Row::LATEST {
-        occurrences::decided(low, other)
-    } else if rule == Row::EARLIEST {
-        occurrences::decided(other, low)
-    } else {
-        0
     }
 }
 
@@ -249,11 +201,8 @@ fn bars(
     if !is {
         return false;
     }
-    let d = bars_decided(rule, low, other);
-    if d < 2 {
-        return d == 1;
-    }
-    bars_by_place(rule, low, w, other, c, ticks, globals)
+    let word = occurrences::order(low, w, other, c, ticks, globals);
+    word_bars(rule, word)
 }
 
 // Whether there is a candidate at place j, and another one than that at place i.

@@ -21,7 +21,7 @@ use Rattle.timestamps.specs.Order.{Clocks, before}
 use Rattle.timestamps.proofs.Composite.{compositeOf-same}
 use Rattle.timestamps.proofs.Composites.{composite-same, maxima-composite}
 use Rattle.timestamps.proofs.Maxima.{Covers, maxima-covered, maxima-in, maxima-of}
-use Rattle.timestamps.proofs.Order.{Before, before-is, before-says, before-strict, clear-before, global, one-clock, two-clocks}
+use Rattle.timestamps.proofs.Stamps.{Before, before-is, before-says, before-strict, clear-before, global, one-clock, two-clocks}
 use Rattle.occurrences.specs.declared.Occurrence.{Occurrence}
 use Rattle.occurrences.specs.Combination.{combinedOf}
 use Rattle.occurrences.specs.Packed.{Names, Notes, Sound, Stands, byteAt, fromWords, occurrenceOf, wordsOf}

@@ -20,7 +20,7 @@ use Rattle.timestamps.specs.Join.{joinOf}
 use Rattle.timestamps.specs.Order.{Clocks, before, blank as blankStamp}
 use Rattle.timestamps.proofs.Join.{Placeable, joinOf-covered, joinOf-covers, joinOf-one}
 use Rattle.timestamps.proofs.Maxima.{Covers, covers-append, covers-same, covers-trans}
-use Rattle.timestamps.proofs.Order.{before-strict}
+use Rattle.timestamps.proofs.Stamps.{before-strict}
 use Rattle.occurrences.specs.declared.Occurrence.{Occurrence}
 use Rattle.occurrences.specs.Combination.{combinationOf, combinedOf, eventsOf, stampsOf}
 use Rattle.occurrences.specs.Latest.{Exact, stampsAt}

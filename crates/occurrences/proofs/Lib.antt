@@ -5,7 +5,7 @@ pub mod Events
 pub mod FileEvents
 pub mod Joins
 pub mod Latest
-pub mod Order
+pub mod Orders
 pub mod Packed
 pub mod Rows
 pub mod Seen

@@ -11,7 +11,7 @@ use Rattle.timestamps.specs.declared.Timestamp.{Timestamp}
 use Rattle.timestamps.specs.Composite.{IsComposite, members}
 use Rattle.timestamps.specs.Order.{Clocks, blank}
 use Rattle.timestamps.proofs.Composite.{same-stamp}
-use Rattle.timestamps.proofs.Order.{global}
+use Rattle.timestamps.proofs.Stamps.{global}
 use Rattle.occurrences.specs.declared.Occurrence.{Occurrence}
 use Rattle.occurrences.specs.Packed.{Names, Notes, Sound, Stands, Within, byteAt, occurrenceOf}
 use Rattle.occurrences.specs.Steps.{Lowest, noteAt}

@@ -3,8 +3,10 @@ use mathlib.Core.Bool.{Bool}
 use mathlib.Core.List.{[], _∷_}
 use Prim.Native.Nat.{ℕ}
 use Rattle.event_sets.specs.Sets.{markedWith, noEvents}
+use Rattle.timestamps.specs.declared.Order.{Order}
+use Rattle.timestamps.specs.declared.Order.the-variants.{Before}
 use Rattle.timestamps.specs.declared.Timestamp.{Timestamp}
-use Rattle.timestamps.specs.Comparison.{allBefore}
+use Rattle.timestamps.specs.Comparison.{orderOf, sameOrder}
 use Rattle.timestamps.specs.Composite.{compositeOf, members}
 use Rattle.timestamps.specs.Order.{Clocks}
 use Rattle.occurrences.specs.declared.Occurrence.{Occurrence}
@@ -13,9 +15,13 @@ use Rattle.occurrences.specs.declared.Occurrence.{Occurrence}
 unfoldable pub ofEvent : Timestamp → ℕ → Occurrence
 ofEvent s number = record { latest = compositeOf (s ∷ []); events = markedWith noEvents number }
 
+-- the word for how a's stamp stands to b's
+unfoldable pub occurrenceOrder : Clocks → Occurrence → Occurrence → Order
+occurrenceOrder clocks a b = orderOf clocks (members (a .latest)) (members (b .latest))
+
 -- a's stamp is before b's
 unfoldable pub isBefore : Clocks → Occurrence → Occurrence → Bool
-isBefore clocks a b = allBefore clocks (members (a .latest)) (members (b .latest))
+isBefore clocks a b = sameOrder (occurrenceOrder clocks a b) Before
 
 -- what a list of occurrences is read as past its end
 abbrev pub noOccurrence : Occurrence

@@ -48,11 +48,6 @@ pub record Lowest (n : ℕ) (g : ℕ → ℕ) (low : ℕ) : Type 0 where
 abbrev pub LowestOf : List ℕ → List ℕ → ℕ → Type 0
 LowestOf globals p low = Lowest 8 (noteAt globals (getD p 2 0)) low
 
--- r tells b, or nothing
-pub record Decided (b : Bool) (r : ℕ) : Type 0 where
-  pub no : r ≡ 0 → b ≡ false
-  pub yes : r ≡ 1 → b ≡ true
-
 -- v is one, and before w on one clock
 unfoldable pub ownBefore : ℕ → ℕ → Bool
 ownBefore v w = pick (eqb v 0) false (ltb v w)
@@ -60,3 +55,7 @@ ownBefore v w = pick (eqb v 0) false (ltb v w)
 -- the stamp with local note w and global note g, if it is one, has one before it: v of its own logger, or the lowest of all
 unfoldable pub hasBefore : ℕ → ℕ → ℕ → ℕ → Bool
 hasBefore low v w g = pick (eqb w 0) true (pick (ownBefore v w) true (ltb (low + 1) (g - 1)))
+
+-- the same, where there is one
+unfoldable pub isReached : ℕ → ℕ → ℕ → ℕ → Bool
+isReached low v w g = pick (eqb w 0) false (hasBefore low v w g)

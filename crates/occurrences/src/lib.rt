@@ -4,15 +4,18 @@ use event_sets::EventSet;
 use timestamps::CompositeTimestamp;
 use timestamps::GlobalTick;
 use timestamps::LocalTick;
+use timestamps::Order;
 ghost use mathlib.Core.List.{List};
 ghost use mathlib.Core.Path.{_≡_};
 ghost use Prim.Native.Nat.{ℕ, _<_, _+_, _%_, _^_};
 ghost use lib.ListN.{getD, length};
 ghost use Rattle.occurrences.specs.declared.Occurrence.{Occurrence};
 ghost use Rattle.occurrences.specs.Combination.{combinedOf};
-ghost use Rattle.occurrences.specs.Occurrences.{isBefore, ofEvent};
+ghost use Rattle.occurrences.specs.Occurrences.{occurrenceOrder, ofEvent};
 ghost use Rattle.occurrences.specs.Packed.{Notes, Stands, Within, byteAt, wordsOf};
-ghost use Rattle.occurrences.specs.Steps.{Bytes, Decided, Highest, Inside, Lowest, LowestOf, hasBefore, keptOf, laterAt, laterOf, noteAt, ownBefore};
+ghost use Rattle.occurrences.specs.Steps.{Bytes, Highest, Inside, Lowest, LowestOf, hasBefore, isReached, keptOf, laterAt, laterOf, noteAt, ownBefore};
+ghost use Rattle.timestamps.specs.Comparison.{allBefore, weaklyBefore};
+ghost use Rattle.timestamps.specs.Composite.{members};
 ghost use Rattle.timestamps.specs.Order.{blank};
 
 // Document 01's occurrence: its composite stamp and its events.
@@ -251,28 +254,24 @@ fn has_before(low: GlobalTick, i: usize, j: usize, ticks: &[u64], globals: &[u64
     low.clearly_earlier(g)
 }
 
-// Whether the lowest global ticks of two decide if the first composite timestamp is before the second: 1 where it is, 0 where it is not, 2 where every
-// place has to be looked at.
-pub fn decided(low: GlobalTick, first: GlobalTick) -> u8
-    ensures { λ r. ⌜ ((ticks globals a b : List ℕ) (t : Notes ticks globals) (x y : Occurrence) → Stands t a x → Stands t b y
-        → LowestOf globals a (low .0) → LowestOf globals b (first .0)
-        → Decided (isBefore (t .clocks) x y) r) ⌝ }
+// The same, where the second has a timestamp at that place.
+fn is_reached(low: GlobalTick, i: usize, j: usize, ticks: &[u64], globals: &[u64]) -> bool
+    requires { ⌜ (i < length (now ticks)) × (j < length (now ticks)) × (j < length (now globals)) ⌝ }
+    ensures { λ r. ⌜ ((0 < getD (now (ticks .entry)) j 0 → 0 < getD (now (globals .entry)) j 0)
+        → r ≡ isReached (low .0) (getD (now (ticks .entry)) i 0) (getD (now (ticks .entry)) j 0) (getD (now (globals .entry)) j 0)) ⌝ }
 {
-    if first.earlier(low) {
-        return 0;
+    if ticks[j] == 0 {
+        return false;
     }
-    if low.clearly_earlier(first) {
-        return 1;
-    }
-    2
+    has_before(low, i, j, ticks, globals)
 }
 
-// Whether the first one's composite timestamp is before the second's, place by place; the lowest global tick of the first is what the caller has.
-pub fn before(low: GlobalTick, a: &Packed, b: &Packed, ticks: &[u64], globals: &[u64]) -> bool
+// Whether the first one's composite timestamp is before the second's, place by place of the second; with the lowest global tick of the first.
+fn before(low: GlobalTick, a: &Packed, b: &Packed, ticks: &[u64], globals: &[u64]) -> bool
     requires { ⌜ Within (now ticks) (now globals) (now a) × Within (now ticks) (now globals) (now b) ⌝ }
     ensures { λ r. ⌜ ((t : Notes (now (ticks .entry)) (now (globals .entry))) (x y : Occurrence)
         → LowestOf (now (globals .entry)) (now (a .entry)) (low .0) → Stands t (now (a .entry)) x → Stands t (now (b .entry)) y
-        → r ≡ isBefore (t .clocks) x y) ⌝ }
+        → r ≡ allBefore (t .clocks) (members (x .latest)) (members (y .latest))) ⌝ }
 {
     let mut k: usize = 0;
     while k < 8 {
@@ -282,4 +281,75 @@ pub fn before(low: GlobalTick, a: &Packed, b: &Packed, ticks: &[u64], globals: &
         k = k + 1;
     }
     true
+}
+
+// Whether the first one's composite timestamp is weakly before the second's, place by place of the first; with the lowest global tick of the second.
+fn weakly_before(a: &Packed, first: GlobalTick, b: &Packed, ticks: &[u64], globals: &[u64]) -> bool
+    requires { ⌜ Within (now ticks) (now globals) (now a) × Within (now ticks) (now globals) (now b) ⌝ }
+    ensures { λ r. ⌜ ((t : Notes (now (ticks .entry)) (now (globals .entry))) (x y : Occurrence)
+        → LowestOf (now (globals .entry)) (now (b .entry)) (first .0) → Stands t (now (a .entry)) x → Stands t (now (b .entry)) y
+        → r ≡ weaklyBefore (t .clocks) (members (x .latest)) (members (y .latest))) ⌝ }
+{
+    let mut k: usize = 0;
+    while k < 8 {
+        if is_reached(first, event_at(b[2], k), event_at(a[2], k), ticks, globals) {
+            return false;
+        }
+        k = k + 1;
+    }
+    true
+}
+
+// The word, by all places: the first that holds. Concurrent is weakly before both ways.
+fn order_by_place(
+    low: GlobalTick,
+    a: &Packed,
+    first: GlobalTick,
+    b: &Packed,
+    ticks: &[u64],
+    globals: &[u64],
+) -> Order
+    requires { ⌜ Within (now ticks) (now globals) (now a) × Within (now ticks) (now globals) (now b) ⌝ }
+    ensures { λ r. ⌜ ((t : Notes (now (ticks .entry)) (now (globals .entry))) (x y : Occurrence)
+        → LowestOf (now (globals .entry)) (now (a .entry)) (low .0) → LowestOf (now (globals .entry)) (now (b .entry)) (first .0)
+        → Stands t (now (a .entry)) x → Stands t (now (b .entry)) y
+        → r ≡ occurrenceOrder (t .clocks) x y) ⌝ }
+{
+    if before(low, a, b, ticks, globals) {
+        return Order::Before;
+    }
+    if before(first, b, a, ticks, globals) {
+        return Order::After;
+    }
+    if !weakly_before(a, first, b, ticks, globals) {
+        return Order::Incomparable;
+    }
+    if !weakly_before(b, low, a, ticks, globals) {
+        return Order::Incomparable;
+    }
+    Order::Concurrent
+}
+
+// The word for how the first one's composite timestamp stands to the second's; beside each its lowest global tick. Where these are clearly apart they decide.
+pub fn order(
+    low: GlobalTick,
+    a: &Packed,
+    first: GlobalTick,
+    b: &Packed,
+    ticks: &[u64],
+    globals: &[u64],
+) -> Order
+    requires { ⌜ Within (now ticks) (now globals) (now a) × Within (now ticks) (now globals) (now b) ⌝ }
+    ensures { λ r. ⌜ ((t : Notes (now (ticks .entry)) (now (globals .entry))) (x y : Occurrence)
+        → LowestOf (now (globals .entry)) (now (a .entry)) (low .0) → LowestOf (now (globals .entry)) (now (b .entry)) (first .0)
+        → Stands t (now (a .entry)) x → Stands t (now (b .entry)) y
+        → r ≡ occurrenceOrder (t .clocks) x y) ⌝ }
+{
+    if low.clearly_earlier(first) {
+        return Order::Before;
+    }
+    if first.clearly_earlier(low) {
+        return Order::After;
+    }
+    order_by_place(low, a, first, b, ticks, globals)
 }

@@ -24,7 +24,7 @@ use Rattle.timestamps.proofs.Composite.{members-of, same-stamp, stamp-in}
 use Rattle.timestamps.proofs.Groupings.{valid-place, valid-placeable}
 use Rattle.timestamps.proofs.Join.{Placeable, joinOf-covered, joinOf-covers, members-joinOf, members-placeable}
 use Rattle.timestamps.proofs.Maxima.{covers-append, covers-same, maxima-in, maxima-of}
-use Rattle.timestamps.proofs.Order.{before-irrefl, before-one, before-other, clear-before, global-le}
+use Rattle.timestamps.proofs.Stamps.{before-irrefl, before-one, before-other, clear-before, global-le}
 use Rattle.open_calls.specs.Notes.{HighestNote, NotedJoin, RoomFor, clearAt, clearNote, globalNote, localNote, noteAt}
 use Rattle.open_calls.proofs.Notes.{clear-notes, local-member, member-global, member-local, none-at, noted-by, some-at}
 

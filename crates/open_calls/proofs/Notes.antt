@@ -19,7 +19,7 @@ use Rattle.timestamps.specs.Composite.{members, presentAt, stampAt}
 use Rattle.timestamps.specs.Order.{Clocks, clearlyEarlier, clocksOf, globalOf, largestTick, quotient, valid}
 use Rattle.timestamps.proofs.Composite.{Holds, each-place, members-of, same-stamp, stamp-in}
 use Rattle.timestamps.proofs.Groupings.{valid-tick}
-use Rattle.timestamps.proofs.Order.{global-small}
+use Rattle.timestamps.proofs.Stamps.{global-small}
 use Rattle.open_calls.specs.Answers.{shown, shownAt}
 use Rattle.open_calls.specs.Notes.{HighestNote, NotedJoin, clearNote, globalNote, localNote, noteAt, shownFrom, shownNote}
 

@@ -1,19 +1,19 @@
 -- Composite stamps: the greatest of a list that has any are one; before and concurrent each give weakly before.
 use mathlib.Core.Path.{_≡_, refl, ap, ap₂, _∙_}
-use mathlib.Core.Bool.{true, false, not}
+use mathlib.Core.Bool.{true, false, not, _&&_}
 use mathlib.Core.List.{List, [], _∷_, List·Memᴰ·eq-of-singleton, List·Memᴰ·head}
 use mathlib.Core.Logic.{⊎-elim}
 use Rattle.sequences.specs.Members.{_isIn_, SameMembers}
 use Rattle.sequences.specs.Select.{somePasses, eachPasses}
-use Rattle.sequences.proofs.Booleans.{and-both, and-left, and-right, false-of-not-true, never-both}
-use Rattle.sequences.proofs.Select.{all-of, any-of}
+use Rattle.sequences.proofs.Booleans.{and-both, and-left, and-right, false-of-not-true, never-both, same-test}
+use Rattle.sequences.proofs.Select.{all-in, all-of, any-in, any-of}
 use Rattle.timestamps.specs.declared.Timestamp.{Timestamp}
 use Rattle.timestamps.specs.Comparison.{allBefore, allConcurrent, weaklyBefore}
 use Rattle.timestamps.specs.Composite.{IsComposite}
 use Rattle.timestamps.specs.Maxima.{maxima}
 use Rattle.timestamps.specs.Order.{Clocks, before, concurrent}
 use Rattle.timestamps.proofs.Maxima.{maxima-of, maxima-reach}
-use Rattle.timestamps.proofs.Order.{before-strict}
+use Rattle.timestamps.proofs.Stamps.{before-strict}
 
 module _ (clocks : Clocks) where
   -- ---- neither is before the other
@@ -59,12 +59,16 @@ module _ (clocks : Clocks) where
 
   -- ---- weakly before
   module _ (a b : List Timestamp) where
-    weakly : ((s t : Timestamp) → s isIn a → t isIn b → before clocks t s ≡ true → ⊥) → weaklyBefore clocks a b ≡ true
+    pub weakly : ((s t : Timestamp) → s isIn a → t isIn b → before clocks t s ≡ true → ⊥) → weaklyBefore clocks a b ≡ true
     unfolding weaklyBefore
     weakly f = ap not (false-of-not-true _ (λ h.
         let (t, j, e) = any-of (λ t. somePasses (λ s. before clocks t s) a) b h in
         let (s, i, g) = any-of (λ s. before clocks t s) a e in
         f s t i j g))
+
+    pub not-weakly : {s t : Timestamp} → s isIn a → t isIn b → before clocks t s ≡ true → weaklyBefore clocks a b ≡ false
+    unfolding weaklyBefore
+    not-weakly {s} {t} i j e = ap not (any-in (λ t. somePasses (λ s. before clocks t s) a) b j (any-in (λ s. before clocks t s) a i e))
 
     pub before-weakly : IsComposite clocks a → allBefore clocks a b ≡ true → weaklyBefore clocks a b ≡ true
     unfolding allBefore
@@ -77,3 +81,14 @@ module _ (clocks : Clocks) where
     concurrent-weakly h = weakly (λ s t i j g.
         let e = all-of (λ s. concurrent clocks s t) a (all-of (λ t. eachPasses (λ s. concurrent clocks s t) a) b h j) i in
         never-both g (concurrent-turned s t e))
+
+  weakly-of : (a b : List Timestamp) → weaklyBefore clocks a b ≡ true → (s t : Timestamp) → s isIn a → t isIn b → before clocks t s ≡ false
+  weakly-of a b h s t i j = false-of-not-true _ (λ e. never-both h (not-weakly a b i j e))
+
+  -- concurrent is weakly before both ways
+  pub concurrent-both : (a b : List Timestamp) → allConcurrent clocks a b ≡ (weaklyBefore clocks a b && weaklyBefore clocks b a)
+  unfolding allConcurrent
+  concurrent-both a b = same-test _ _
+      (λ h. and-both _ _ (concurrent-weakly a b h) (weakly b a (λ t s j i e. never-both e (concurrent-not s t (all-of (λ s. concurrent clocks s t) a (all-of (λ t. eachPasses (λ s. concurrent clocks s t) a) b h j) i)))))
+      (λ h. all-in (λ t. eachPasses (λ s. concurrent clocks s t) a) b (λ t j. all-in (λ s. concurrent clocks s t) a (λ s i.
+      concurrent-is s t (weakly-of b a (and-right (weaklyBefore clocks a b) _ h) t s j i) (weakly-of a b (and-left _ (weaklyBefore clocks b a) h) s t i j))))

@@ -18,7 +18,7 @@ use Rattle.timestamps.specs.Maxima.{maxima}
 use Rattle.timestamps.specs.Order.{Clocks, before, clocksOf, largestTick, valid, validRatio}
 use Rattle.timestamps.proofs.Join.{Placeable, joinOf-covered, joinOf-covers, joinOf-one, joinOf-same, members-joinOf}
 use Rattle.timestamps.proofs.Maxima.{Covers, covers-append, covers-trans, maxima-of, maxima-in}
-use Rattle.timestamps.proofs.Order.{before-strict}
+use Rattle.timestamps.proofs.Stamps.{before-strict}
 
 -- a valid stamp has one of the eight places, and a tick that is not too large
 pub valid-place : (s : Timestamp) → valid s ≡ true → s .logger < 8

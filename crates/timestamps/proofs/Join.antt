@@ -13,7 +13,7 @@ use Rattle.timestamps.specs.Maxima.{maxima}
 use Rattle.timestamps.specs.Order.{Clocks, before}
 use Rattle.timestamps.proofs.Composite.{OnePerLogger, same-stamp, members-of, members-compositeOf, compositeOf-same, compositeOf-canonical, Canonical}
 use Rattle.timestamps.proofs.Maxima.{maxima-of, maxima-in, Covers, covers-same, covers-append, covers-trans, maxima-covered, maxima-covers}
-use Rattle.timestamps.proofs.Order.{before-one, before-irrefl, before-strict}
+use Rattle.timestamps.proofs.Stamps.{before-one, before-irrefl, before-strict}
 
 -- every stamp of the list has one of the eight logger places
 abbrev pub Placeable : List Timestamp → Type 0

@@ -4,5 +4,6 @@ pub mod Examples
 pub mod Groupings
 pub mod Join
 pub mod Maxima
-pub mod Order
+pub mod Stamps
 pub mod Steps
+pub mod Words

@@ -1,12 +1,13 @@
 -- Document 01, "Bridge examples": the marked rows on stamps, at ratio 10. `stamped 1 80` is 1:80.
-use mathlib.Core.Bool.{Bool, true, false, not, _&&_}
+use mathlib.Core.Bool.{Bool, true, false, _&&_}
 use mathlib.Core.List.{List, [], _∷_, _++_}
 use Prim.Native.Nat.{ℕ}
 use lib.Dec.{eqb}
 use Rattle.sequences.specs.Choice.{pick}
 use Rattle.timestamps.specs.declared.Timestamp.{Timestamp}
 use Rattle.timestamps.specs.declared.CompositeTimestamp.{CompositeTimestamp}
-use Rattle.timestamps.specs.Comparison.{allBefore, allConcurrent, weaklyBefore}
+use Rattle.timestamps.specs.declared.Order.the-variants.{Incomparable}
+use Rattle.timestamps.specs.Comparison.{allBefore, relationOf, sameOrder}
 use Rattle.timestamps.specs.Composite.{members}
 use Rattle.timestamps.specs.Join.{joinOf, Grouping, stamp, group, last, more, groupJoin}
 use Rattle.timestamps.specs.Order.{Clocks, clocksOf, largestTick}
@@ -28,7 +29,7 @@ sameStamps (s ∷ l) (t ∷ m) = eqb (s .logger) (t .logger) && (eqb (s .tick .0
 -- what the row says holds
 unfoldable pub holds : Example → Bool
 holds (joins g l) = sameStamps (members (groupJoin (clocksOf 10) g)) l
-holds (weakly a b) = not (allBefore (clocksOf 10) a b) && (not (allBefore (clocksOf 10) b a) && (not (allConcurrent (clocksOf 10) a b) && weaklyBefore (clocksOf 10) a b))
+holds (weakly a b) = sameOrder (relationOf (clocksOf 10) a b .order) Incomparable && relationOf (clocksOf 10) a b .«weakly_before»
 
 -- groupings of two and three parts
 abbrev pub two : Grouping → Grouping → Grouping

@@ -2,6 +2,7 @@
 ghost use mathlib.Core.Path.{_≡_};
 ghost use Prim.Native.Nat.{max, min};
 ghost use lib.Dec.{ltb};
+ghost use Rattle.timestamps.specs.Comparison.{orderNumber, sameOrder};
 ghost use Rattle.timestamps.specs.Order.{blank, clearlyEarlier, quotient, valid, validRatio};
 
 // ---- timestamps
@@ -119,9 +120,39 @@ pub struct CompositeTimestamp {
     pub ticks: [LocalTick; 8],
 }
 
-// How one composite stands to another, by document 01's three words.
+// ---- how two composites compare
+
+// The word for how one composite stands to another (specs/Comparison.antt: `says` what each means, `orderNumber` its number).
+pub enum Order {
+    Incomparable,
+    Before,
+    After,
+    Concurrent,
+}
+
+impl Order {
+    // The word's number, as C has it.
+    pub fn number(self) -> u8
+        ensures { λ r. ⌜ r ≡ orderNumber self ⌝ }
+    {
+        match self {
+            Order::Incomparable => 0,
+            Order::Before => 1,
+            Order::After => 2,
+            Order::Concurrent => 3,
+        }
+    }
+
+    // Whether it is this word.
+    pub fn is(self, word: Order) -> bool
+        ensures { λ r. ⌜ r ≡ sameOrder self word ⌝ }
+    {
+        self.number() == word.number()
+    }
+}
+
+// The comparison: one word, and whether the first is weakly before the second.
 pub struct Relation {
-    pub before: bool,
-    pub concurrent: bool,
+    pub order: Order,
     pub weakly_before: bool,
 }

@@ -191,13 +191,13 @@ module _ {M : Type 1} (𝓤 : URA M) (H : Heap 𝓤) (A : Atoms 𝓤) (W : Given
   said-4 r-middle r = exE 𝓤 _ (λ ws. snd∗ 𝓤 (sem 𝓤 H A (lasts c4.ended (κp3, tt) ((r-middle .span), (p3, (p1, tt))) ws)) (fact 𝓤 (r ≡ foldGather (clocksOf p1) 0 (gatheringOf (r-middle .span) noNotes) (p3 .now))))
 
   abbrev to-5 : (r-a : Gathering) (r-b : Gathering) → Of-c5 𝓤 H A at-mem run .Ghost
-  to-5 r-a r-b = ((tt, tt, tt, (r-a, (r-b, ((length (p2 .now)), tt))), ((LL.val RGathering.the-type LGathering.the-laws r-a) ∷ [], ((LL.val RGathering.the-type LGathering.the-laws r-b) ∷ [], ((vint w64 (length (p2 .now))) ∷ [], tt)))), tt)
+  to-5 r-a r-b = ((tt, tt, tt, (r-a, (r-b, ((length (p2 .now)), (p1, tt)))), ((LL.val RGathering.the-type LGathering.the-laws r-a) ∷ [], ((LL.val RGathering.the-type LGathering.the-laws r-b) ∷ [], ((vint w64 (length (p2 .now))) ∷ [], ((vint w64 p1) ∷ [], tt))))), tt)
 
   goes-to-5 : (r-a : Gathering) (r-b : Gathering) → Is RGathering.the-row r-a ((LL.val RGathering.the-type LGathering.the-laws r-a) ∷ []) → Is RGathering.the-row r-b ((LL.val RGathering.the-type LGathering.the-laws r-b) ∷ []) → ent 𝓤 (⋆ 𝓤 H A ([])) (Of-c5 𝓤 H A at-mem run .pre (to-5 r-a r-b))
-  goes-to-5 r-a r-b i-a i-b = qed W ([]) ∵ nothing ! $ nothing ! $ owned ! usize (Is usize) (uint-makes 𝓤 H A W w64) (length (p2 .now)) ((vint w64 (length (p2 .now))) ∷ []) (refl, gp2 .0 .1 .0) $ fjoin ! $ owned ! RGathering.the-row (Is RGathering.the-row) (LL.makes RGathering.the-type LGathering.the-plain 𝓤 H A) r-b ((LL.val RGathering.the-type LGathering.the-laws r-b) ∷ []) i-b $ fjoin ! $ owned ! RGathering.the-row (Is RGathering.the-row) (LL.makes RGathering.the-type LGathering.the-plain 𝓤 H A) r-a ((LL.val RGathering.the-type LGathering.the-laws r-a) ∷ []) i-a $ fjoin ! $ move ! (1 ∷ 0 ∷ []) $ join ! $ frame ! $ done !
+  goes-to-5 r-a r-b i-a i-b = qed W ([]) ∵ nothing ! $ nothing ! $ owned ! u64 (Is u64) (uint-makes 𝓤 H A W w64) p1 ((vint w64 p1) ∷ []) gp1 $ fjoin ! $ owned ! usize (Is usize) (uint-makes 𝓤 H A W w64) (length (p2 .now)) ((vint w64 (length (p2 .now))) ∷ []) (refl, gp2 .0 .1 .0) $ fjoin ! $ owned ! RGathering.the-row (Is RGathering.the-row) (LL.makes RGathering.the-type LGathering.the-plain 𝓤 H A) r-b ((LL.val RGathering.the-type LGathering.the-laws r-b) ∷ []) i-b $ fjoin ! $ owned ! RGathering.the-row (Is RGathering.the-row) (LL.makes RGathering.the-type LGathering.the-plain 𝓤 H A) r-a ((LL.val RGathering.the-type LGathering.the-laws r-a) ∷ []) i-a $ fjoin ! $ move ! (1 ∷ 0 ∷ []) $ join ! $ frame ! $ done !
 
-  said-5 : (r-a : Gathering) (r-b : Gathering) (r : Comparison) → ent 𝓤 (ensured 𝓤 H A c5.ended (c5.clauses 𝓤 H A at-mem run) tt (r-a, (r-b, ((length (p2 .now)), tt))) tt r) (fact 𝓤 (r ≡ compareDone (length (p2 .now)) r-a r-b))
-  said-5 r-a r-b r = exE 𝓤 _ (λ ws. snd∗ 𝓤 (sem 𝓤 H A (lasts c5.ended tt (r-a, (r-b, ((length (p2 .now)), tt))) ws)) (fact 𝓤 (r ≡ compareDone (length (p2 .now)) r-a r-b)))
+  said-5 : (r-a : Gathering) (r-b : Gathering) (r : Comparison) → ent 𝓤 (ensured 𝓤 H A c5.ended (c5.clauses 𝓤 H A at-mem run) tt (r-a, (r-b, ((length (p2 .now)), (p1, tt)))) tt r) (fact 𝓤 (r ≡ compareDone p1 (length (p2 .now)) r-a r-b))
+  said-5 r-a r-b r = exE 𝓤 _ (λ ws. snd∗ 𝓤 (sem 𝓤 H A (lasts c5.ended tt (r-a, (r-b, ((length (p2 .now)), (p1, tt)))) ws)) (fact 𝓤 (r ≡ compareDone p1 (length (p2 .now)) r-a r-b)))
 
   exits : (r : Comparison) (u : Val) → r ≡ compareRun p1 (p2 .now) (p3 .now) → Is RComparison.the-row r (u ∷ []) → ent 𝓤 (⋆ 𝓤 H A (‵ (flft κp2 qp2) ∷ ‵ (flft κp3 qp3) ∷ [])) (Post u)
   exits r u e is =
@@ -216,14 +216,14 @@ module _ {M : Type 1} (𝓤 : URA M) (H : Heap 𝓤) (A : Atoms 𝓤) (W : Given
     stage-9 r-start e-start i-start h-0 r-a e-a i-a r-middle e-middle i-middle h-1 r-b e-b i-b =
         qed W (At-9 r-start r-a r-middle r-b) ∵ exec ! C Λ En parts.t-11 (atRet En Post) $
         use0 W (raw (Of-c5 𝓤 H A at-mem run .pre (to-5 r-a r-b))) (goes-to-5 r-a r-b i-a i-b) $
-        calls-at ! fm (Of-c5 𝓤 H A at-mem run) known-c5 (to-5 r-a r-b) (and-then ! (load ! (from ! (stop !)) (look ! 8 refl)) (and-then ! (load ! (from ! (stop !)) (look ! 10 refl)) (and-then ! (load ! (from ! (stop !)) (look ! 5 refl)) (no-more !)))) (λ w.
-        use1 W (later (some (λ (r : Comparison). ((‵ ftrue) ⊛ ‵ (RComparison.the-row .own r (w ∷ []))) ⊛ raw (ensured 𝓤 H A c5.ended (c5.clauses 𝓤 H A at-mem run) tt (r-a, (r-b, ((length (p2 .now)), tt))) tt r)))) (id⊢ 𝓤 _) $ await ! tt $ pick ! (λ r.
-        split ! $ move ! (1 ∷ []) $ use1 W (raw (fact 𝓤 (r ≡ compareDone (length (p2 .now)) r-a r-b))) (said-5 r-a r-b r) $ heard ! (r ≡ compareDone (length (p2 .now)) r-a r-b) (λ e. split ! $ move ! (1 ∷ []) $
+        calls-at ! fm (Of-c5 𝓤 H A at-mem run) known-c5 (to-5 r-a r-b) (and-then ! (load ! (from ! (stop !)) (look ! 8 refl)) (and-then ! (load ! (from ! (stop !)) (look ! 10 refl)) (and-then ! (load ! (from ! (stop !)) (look ! 5 refl)) (and-then ! (load ! (from ! (stop !)) (look ! 2 refl)) (no-more !))))) (λ w.
+        use1 W (later (some (λ (r : Comparison). ((‵ ftrue) ⊛ ‵ (RComparison.the-row .own r (w ∷ []))) ⊛ raw (ensured 𝓤 H A c5.ended (c5.clauses 𝓤 H A at-mem run) tt (r-a, (r-b, ((length (p2 .now)), (p1, tt)))) tt r)))) (id⊢ 𝓤 _) $ await ! tt $ pick ! (λ r.
+        split ! $ move ! (1 ∷ []) $ use1 W (raw (fact 𝓤 (r ≡ compareDone p1 (length (p2 .now)) r-a r-b))) (said-5 r-a r-b r) $ heard ! (r ≡ compareDone p1 (length (p2 .now)) r-a r-b) (λ e. split ! $ move ! (1 ∷ []) $
         peeks ! RComparison.the-row (Is RComparison.the-row) (shows 𝓤 H A RComparison.the-row) r (w ∷ []) (λ is.
         land ! (from ! (stop !)) (init ! 2 refl (LL.lawful RComparison.the-type LComparison.the-laws 𝓤 H A W .typed r _ is .0)) $ drop ! $
         returns ! (look ! 1 refl) $ forget ! 1 refl $ forget ! 2 refl $ forget ! 3 refl $ forget ! 4 refl $ forget ! 5 refl $ forget ! 6 refl $ forget ! 7 refl $ forget ! 8 refl $ forget ! 9 refl $ forget ! 10 refl $
         move ! (1 ∷ 16 ∷ []) $ free1 ! $ move ! (1 ∷ 15 ∷ []) $ free1 ! $ move ! (1 ∷ 14 ∷ []) $ free1 ! $ move ! (1 ∷ 13 ∷ []) $ free1 ! $ move ! (1 ∷ 12 ∷ []) $ free1 ! $ move ! (1 ∷ 11 ∷ []) $ free1 ! $ move ! (1 ∷ 10 ∷ []) $ free1 ! $ move ! (1 ∷ 9 ∷ []) $ free1 ! $ move ! (1 ∷ 8 ∷ []) $ free1 ! $ move ! (1 ∷ 7 ∷ []) $ free1 ! $ move ! (1 ∷ 6 ∷ []) $ free1 ! $ free0 ! $
-        keep ! (1 ∷ 3 ∷ []) $ by ! (exits r w (e ∙ (ap (λ (y : Gathering). compareDone (length (p2 .now)) r-a y) e-b ∙ (ap (λ (y : CompareStart). compareDone (length (p2 .now)) r-a (foldGather (clocksOf p1) 0 (gatheringOf (y .span) noNotes) (p3 .now))) e-middle ∙ (ap (λ (y : Gathering). compareDone (length (p2 .now)) y (foldGather (clocksOf p1) 0 (gatheringOf ((afterFirst y (length (p2 .now)) (length (p3 .now))) .span) noNotes) (p3 .now))) e-a ∙ (ap (λ (y : CompareStart). compareDone (length (p2 .now)) (foldGather (clocksOf p1) 0 (gatheringOf (y .span) noNotes) (p2 .now)) (foldGather (clocksOf p1) 0 (gatheringOf ((afterFirst (foldGather (clocksOf p1) 0 (gatheringOf (y .span) noNotes) (p2 .now)) (length (p2 .now)) (length (p3 .now))) .span) noNotes) (p3 .now))) e-start)))) ∙ (ap (λ (t : Bool). choose t ((afterFirst (foldGather (clocksOf p1) 0 (gatheringOf ((compareStart (joinVerdict p1 (length (p2 .now))) 0) .span) noNotes) (p2 .now)) (length (p2 .now)) (length (p3 .now))) .answer) (compareDone (length (p2 .now)) (foldGather (clocksOf p1) 0 (gatheringOf ((compareStart (joinVerdict p1 (length (p2 .now))) 0) .span) noNotes) (p2 .now)) (foldGather (clocksOf p1) 0 (gatheringOf ((afterFirst (foldGather (clocksOf p1) 0 (gatheringOf ((compareStart (joinVerdict p1 (length (p2 .now))) 0) .span) noNotes) (p2 .now)) (length (p2 .now)) (length (p3 .now))) .span) noNotes) (p3 .now)))) (sym (sym (ap (λ (y : CompareStart). y .stop) (e-middle ∙ (ap (λ (y : Gathering). afterFirst y (length (p2 .now)) (length (p3 .now))) e-a ∙ (ap (λ (y : CompareStart). afterFirst (foldGather (clocksOf p1) 0 (gatheringOf (y .span) noNotes) (p2 .now)) (length (p2 .now)) (length (p3 .now))) e-start)))) ∙ h-1)) ∙ (ap (λ (t : Bool). choose t ((compareStart (joinVerdict p1 (length (p2 .now))) 0) .answer) (choose ((afterFirst (foldGather (clocksOf p1) 0 (gatheringOf ((compareStart (joinVerdict p1 (length (p2 .now))) 0) .span) noNotes) (p2 .now)) (length (p2 .now)) (length (p3 .now))) .stop) ((afterFirst (foldGather (clocksOf p1) 0 (gatheringOf ((compareStart (joinVerdict p1 (length (p2 .now))) 0) .span) noNotes) (p2 .now)) (length (p2 .now)) (length (p3 .now))) .answer) (compareDone (length (p2 .now)) (foldGather (clocksOf p1) 0 (gatheringOf ((compareStart (joinVerdict p1 (length (p2 .now))) 0) .span) noNotes) (p2 .now)) (foldGather (clocksOf p1) 0 (gatheringOf ((afterFirst (foldGather (clocksOf p1) 0 (gatheringOf ((compareStart (joinVerdict p1 (length (p2 .now))) 0) .span) noNotes) (p2 .now)) (length (p2 .now)) (length (p3 .now))) .span) noNotes) (p3 .now))))) (sym (sym (ap (λ (y : CompareStart). y .stop) (e-start)) ∙ h-0))))) is)))))
+        keep ! (1 ∷ 3 ∷ []) $ by ! (exits r w (e ∙ (ap (λ (y : Gathering). compareDone p1 (length (p2 .now)) r-a y) e-b ∙ (ap (λ (y : CompareStart). compareDone p1 (length (p2 .now)) r-a (foldGather (clocksOf p1) 0 (gatheringOf (y .span) noNotes) (p3 .now))) e-middle ∙ (ap (λ (y : Gathering). compareDone p1 (length (p2 .now)) y (foldGather (clocksOf p1) 0 (gatheringOf ((afterFirst y (length (p2 .now)) (length (p3 .now))) .span) noNotes) (p3 .now))) e-a ∙ (ap (λ (y : CompareStart). compareDone p1 (length (p2 .now)) (foldGather (clocksOf p1) 0 (gatheringOf (y .span) noNotes) (p2 .now)) (foldGather (clocksOf p1) 0 (gatheringOf ((afterFirst (foldGather (clocksOf p1) 0 (gatheringOf (y .span) noNotes) (p2 .now)) (length (p2 .now)) (length (p3 .now))) .span) noNotes) (p3 .now))) e-start)))) ∙ (ap (λ (t : Bool). choose t ((afterFirst (foldGather (clocksOf p1) 0 (gatheringOf ((compareStart (joinVerdict p1 (length (p2 .now))) 0) .span) noNotes) (p2 .now)) (length (p2 .now)) (length (p3 .now))) .answer) (compareDone p1 (length (p2 .now)) (foldGather (clocksOf p1) 0 (gatheringOf ((compareStart (joinVerdict p1 (length (p2 .now))) 0) .span) noNotes) (p2 .now)) (foldGather (clocksOf p1) 0 (gatheringOf ((afterFirst (foldGather (clocksOf p1) 0 (gatheringOf ((compareStart (joinVerdict p1 (length (p2 .now))) 0) .span) noNotes) (p2 .now)) (length (p2 .now)) (length (p3 .now))) .span) noNotes) (p3 .now)))) (sym (sym (ap (λ (y : CompareStart). y .stop) (e-middle ∙ (ap (λ (y : Gathering). afterFirst y (length (p2 .now)) (length (p3 .now))) e-a ∙ (ap (λ (y : CompareStart). afterFirst (foldGather (clocksOf p1) 0 (gatheringOf (y .span) noNotes) (p2 .now)) (length (p2 .now)) (length (p3 .now))) e-start)))) ∙ h-1)) ∙ (ap (λ (t : Bool). choose t ((compareStart (joinVerdict p1 (length (p2 .now))) 0) .answer) (choose ((afterFirst (foldGather (clocksOf p1) 0 (gatheringOf ((compareStart (joinVerdict p1 (length (p2 .now))) 0) .span) noNotes) (p2 .now)) (length (p2 .now)) (length (p3 .now))) .stop) ((afterFirst (foldGather (clocksOf p1) 0 (gatheringOf ((compareStart (joinVerdict p1 (length (p2 .now))) 0) .span) noNotes) (p2 .now)) (length (p2 .now)) (length (p3 .now))) .answer) (compareDone p1 (length (p2 .now)) (foldGather (clocksOf p1) 0 (gatheringOf ((compareStart (joinVerdict p1 (length (p2 .now))) 0) .span) noNotes) (p2 .now)) (foldGather (clocksOf p1) 0 (gatheringOf ((afterFirst (foldGather (clocksOf p1) 0 (gatheringOf ((compareStart (joinVerdict p1 (length (p2 .now))) 0) .span) noNotes) (p2 .now)) (length (p2 .now)) (length (p3 .now))) .span) noNotes) (p3 .now))))) (sym (sym (ap (λ (y : CompareStart). y .stop) (e-start)) ∙ h-0))))) is)))))
 
     abbrev At-8 : (r-start : CompareStart) (r-a : Gathering) (r-middle : CompareStart) → List (Entry 𝓤)
     At-8 r-start r-a r-middle = ‵ (froom LComparison.mir l0 0) ∷ ‵ (fat fullShare (tyInt w64) l1 0 (vint w64 p1)) ∷ ‵ (fat fullShare (sliceTy (tyRef (named 0) imm (pointee (RTimestamp.the-row .written)))) l2 0 (sliceVal (p2 .ptr) (length (p2 .now)))) ∷ ‵ (fat fullShare (sliceTy (tyRef (named 1) imm (pointee (RTimestamp.the-row .written)))) l3 0 (sliceVal (p3 .ptr) (length (p3 .now)))) ∷ ‵ (fat fullShare (tyInt w64) l4 0 (vint w64 (length (p2 .now)))) ∷ ‵ (fat fullShare (tyInt w64) l5 0 (vint w64 (length (p3 .now)))) ∷ ‵ (fat fullShare LCompareStart.mir l6 0 (LL.val RCompareStart.the-type LCompareStart.the-laws r-start)) ∷ ‵ (fat fullShare LGathering.mir l7 0 (LL.val RGathering.the-type LGathering.the-laws r-a)) ∷ ‵ (fat fullShare LCompareStart.mir l8 0 (LL.val RCompareStart.the-type LCompareStart.the-laws r-middle)) ∷ ‵ (froom LGathering.mir l9 0) ∷ ‵ (froom tyBool l10 0) ∷ ‵ (flft κp2 qp2) ∷ ‵ ((ShrSlice (named 0) κp2 RTimestamp.the-row) .own p2 ((sliceVal (p2 .ptr) (length (p2 .now))) ∷ [])) ∷ ‵ (flft κp3 qp3) ∷ ‵ ((ShrSlice (named 1) κp3 RTimestamp.the-row) .own p3 ((sliceVal (p3 .ptr) (length (p3 .now))) ∷ [])) ∷ ‵ (fdies LComparison.mir l0) ∷ ‵ (fdies (tyInt w64) l1) ∷ ‵ (fdies (sliceTy (tyRef (named 0) imm (pointee (RTimestamp.the-row .written)))) l2) ∷ ‵ (fdies (sliceTy (tyRef (named 1) imm (pointee (RTimestamp.the-row .written)))) l3) ∷ ‵ (fdies (tyInt w64) l4) ∷ ‵ (fdies (tyInt w64) l5) ∷ ‵ (fdies LCompareStart.mir l6) ∷ ‵ (fdies LGathering.mir l7) ∷ ‵ (fdies LCompareStart.mir l8) ∷ ‵ (fdies LGathering.mir l9) ∷ ‵ (fdies tyBool l10) ∷ []
@@ -252,7 +252,7 @@ module _ {M : Type 1} (𝓤 : URA M) (H : Heap 𝓤) (A : Atoms 𝓤) (W : Given
         (λ t. assigns ! (of-opd ! (load ! (from ! (fld ! refl (stop !))) (look-in ! 8 (sub ! 1 refl (whole !))))) (from ! (stop !)) (init ! 0 refl (LL.lawful RComparison.the-type LComparison.the-laws 𝓤 H A W .typed (r-middle .answer) _ (LL.owed RCompareStart.the-type LCompareStart.the-laws r-middle _ i-middle .1 .0) .0)) $ returns-within ! Post refl (look ! 0 refl) $
         forget ! 0 refl $ forget ! 1 refl $ forget ! 2 refl $ forget ! 3 refl $ forget ! 4 refl $ forget ! 5 refl $ forget ! 6 refl $ forget ! 7 refl $ forget ! 8 refl $ forget ! 10 refl $
         move ! (0 ∷ 15 ∷ []) $ free1 ! $ move ! (0 ∷ 14 ∷ []) $ free1 ! $ move ! (0 ∷ 13 ∷ []) $ free1 ! $ move ! (0 ∷ 12 ∷ []) $ free1 ! $ move ! (0 ∷ 11 ∷ []) $ free1 ! $ move ! (0 ∷ 10 ∷ []) $ free1 ! $ move ! (0 ∷ 9 ∷ []) $ free1 ! $ move ! (0 ∷ 8 ∷ []) $ free1 ! $ move ! (0 ∷ 7 ∷ []) $ free1 ! $ move ! (0 ∷ 6 ∷ []) $ free1 ! $ move ! (0 ∷ 5 ∷ []) $ free1 ! $ free0 ! $
-        keep ! (0 ∷ 2 ∷ []) $ by ! (exits (r-middle .answer) (LL.val RComparison.the-type LComparison.the-laws (r-middle .answer)) (ap (λ (y : CompareStart). y .answer) (e-middle ∙ (ap (λ (y : Gathering). afterFirst y (length (p2 .now)) (length (p3 .now))) e-a ∙ (ap (λ (y : CompareStart). afterFirst (foldGather (clocksOf p1) 0 (gatheringOf (y .span) noNotes) (p2 .now)) (length (p2 .now)) (length (p3 .now))) e-start))) ∙ (ap (λ (t : Bool). choose t ((afterFirst (foldGather (clocksOf p1) 0 (gatheringOf ((compareStart (joinVerdict p1 (length (p2 .now))) 0) .span) noNotes) (p2 .now)) (length (p2 .now)) (length (p3 .now))) .answer) (compareDone (length (p2 .now)) (foldGather (clocksOf p1) 0 (gatheringOf ((compareStart (joinVerdict p1 (length (p2 .now))) 0) .span) noNotes) (p2 .now)) (foldGather (clocksOf p1) 0 (gatheringOf ((afterFirst (foldGather (clocksOf p1) 0 (gatheringOf ((compareStart (joinVerdict p1 (length (p2 .now))) 0) .span) noNotes) (p2 .now)) (length (p2 .now)) (length (p3 .now))) .span) noNotes) (p3 .now)))) (sym (sym (ap (λ (y : CompareStart). y .stop) (e-middle ∙ (ap (λ (y : Gathering). afterFirst y (length (p2 .now)) (length (p3 .now))) e-a ∙ (ap (λ (y : CompareStart). afterFirst (foldGather (clocksOf p1) 0 (gatheringOf (y .span) noNotes) (p2 .now)) (length (p2 .now)) (length (p3 .now))) e-start)))) ∙ holds (r-middle .stop) t)) ∙ (ap (λ (t : Bool). choose t ((compareStart (joinVerdict p1 (length (p2 .now))) 0) .answer) (choose ((afterFirst (foldGather (clocksOf p1) 0 (gatheringOf ((compareStart (joinVerdict p1 (length (p2 .now))) 0) .span) noNotes) (p2 .now)) (length (p2 .now)) (length (p3 .now))) .stop) ((afterFirst (foldGather (clocksOf p1) 0 (gatheringOf ((compareStart (joinVerdict p1 (length (p2 .now))) 0) .span) noNotes) (p2 .now)) (length (p2 .now)) (length (p3 .now))) .answer) (compareDone (length (p2 .now)) (foldGather (clocksOf p1) 0 (gatheringOf ((compareStart (joinVerdict p1 (length (p2 .now))) 0) .span) noNotes) (p2 .now)) (foldGather (clocksOf p1) 0 (gatheringOf ((afterFirst (foldGather (clocksOf p1) 0 (gatheringOf ((compareStart (joinVerdict p1 (length (p2 .now))) 0) .span) noNotes) (p2 .now)) (length (p2 .now)) (length (p3 .now))) .span) noNotes) (p3 .now))))) (sym (sym (ap (λ (y : CompareStart). y .stop) (e-start)) ∙ h-0))))) (LL.owed RCompareStart.the-type LCompareStart.the-laws r-middle _ i-middle .1 .0)))
+        keep ! (0 ∷ 2 ∷ []) $ by ! (exits (r-middle .answer) (LL.val RComparison.the-type LComparison.the-laws (r-middle .answer)) (ap (λ (y : CompareStart). y .answer) (e-middle ∙ (ap (λ (y : Gathering). afterFirst y (length (p2 .now)) (length (p3 .now))) e-a ∙ (ap (λ (y : CompareStart). afterFirst (foldGather (clocksOf p1) 0 (gatheringOf (y .span) noNotes) (p2 .now)) (length (p2 .now)) (length (p3 .now))) e-start))) ∙ (ap (λ (t : Bool). choose t ((afterFirst (foldGather (clocksOf p1) 0 (gatheringOf ((compareStart (joinVerdict p1 (length (p2 .now))) 0) .span) noNotes) (p2 .now)) (length (p2 .now)) (length (p3 .now))) .answer) (compareDone p1 (length (p2 .now)) (foldGather (clocksOf p1) 0 (gatheringOf ((compareStart (joinVerdict p1 (length (p2 .now))) 0) .span) noNotes) (p2 .now)) (foldGather (clocksOf p1) 0 (gatheringOf ((afterFirst (foldGather (clocksOf p1) 0 (gatheringOf ((compareStart (joinVerdict p1 (length (p2 .now))) 0) .span) noNotes) (p2 .now)) (length (p2 .now)) (length (p3 .now))) .span) noNotes) (p3 .now)))) (sym (sym (ap (λ (y : CompareStart). y .stop) (e-middle ∙ (ap (λ (y : Gathering). afterFirst y (length (p2 .now)) (length (p3 .now))) e-a ∙ (ap (λ (y : CompareStart). afterFirst (foldGather (clocksOf p1) 0 (gatheringOf (y .span) noNotes) (p2 .now)) (length (p2 .now)) (length (p3 .now))) e-start)))) ∙ holds (r-middle .stop) t)) ∙ (ap (λ (t : Bool). choose t ((compareStart (joinVerdict p1 (length (p2 .now))) 0) .answer) (choose ((afterFirst (foldGather (clocksOf p1) 0 (gatheringOf ((compareStart (joinVerdict p1 (length (p2 .now))) 0) .span) noNotes) (p2 .now)) (length (p2 .now)) (length (p3 .now))) .stop) ((afterFirst (foldGather (clocksOf p1) 0 (gatheringOf ((compareStart (joinVerdict p1 (length (p2 .now))) 0) .span) noNotes) (p2 .now)) (length (p2 .now)) (length (p3 .now))) .answer) (compareDone p1 (length (p2 .now)) (foldGather (clocksOf p1) 0 (gatheringOf ((compareStart (joinVerdict p1 (length (p2 .now))) 0) .span) noNotes) (p2 .now)) (foldGather (clocksOf p1) 0 (gatheringOf ((afterFirst (foldGather (clocksOf p1) 0 (gatheringOf ((compareStart (joinVerdict p1 (length (p2 .now))) 0) .span) noNotes) (p2 .now)) (length (p2 .now)) (length (p3 .now))) .span) noNotes) (p3 .now))))) (sym (sym (ap (λ (y : CompareStart). y .stop) (e-start)) ∙ h-0))))) (LL.owed RCompareStart.the-type LCompareStart.the-laws r-middle _ i-middle .1 .0)))
         (λ t. skips ! $ forget ! 10 refl $ by ! (stage-8 r-start e-start i-start h-0 r-a e-a i-a r-middle e-middle i-middle (fails (r-middle .stop) t)))
 
     abbrev At-6 : (r-start : CompareStart) (r-a : Gathering) → List (Entry 𝓤)
@@ -296,7 +296,7 @@ module _ {M : Type 1} (𝓤 : URA M) (H : Heap 𝓤) (A : Atoms 𝓤) (W : Given
         (λ t. assigns ! (of-opd ! (load ! (from ! (fld ! refl (stop !))) (look-in ! 6 (sub ! 1 refl (whole !))))) (from ! (stop !)) (init ! 0 refl (LL.lawful RComparison.the-type LComparison.the-laws 𝓤 H A W .typed (r-start .answer) _ (LL.owed RCompareStart.the-type LCompareStart.the-laws r-start _ i-start .1 .0) .0)) $ returns-within ! Post refl (look ! 0 refl) $
         forget ! 0 refl $ forget ! 1 refl $ forget ! 2 refl $ forget ! 3 refl $ forget ! 4 refl $ forget ! 5 refl $ forget ! 6 refl $ forget ! 10 refl $
         move ! (0 ∷ 15 ∷ []) $ free1 ! $ move ! (0 ∷ 14 ∷ []) $ free1 ! $ move ! (0 ∷ 13 ∷ []) $ free1 ! $ move ! (0 ∷ 12 ∷ []) $ free1 ! $ move ! (0 ∷ 11 ∷ []) $ free1 ! $ move ! (0 ∷ 10 ∷ []) $ free1 ! $ move ! (0 ∷ 9 ∷ []) $ free1 ! $ move ! (0 ∷ 8 ∷ []) $ free1 ! $ move ! (0 ∷ 7 ∷ []) $ free1 ! $ move ! (0 ∷ 6 ∷ []) $ free1 ! $ move ! (0 ∷ 5 ∷ []) $ free1 ! $ free0 ! $
-        keep ! (0 ∷ 2 ∷ []) $ by ! (exits (r-start .answer) (LL.val RComparison.the-type LComparison.the-laws (r-start .answer)) (ap (λ (y : CompareStart). y .answer) (e-start) ∙ (ap (λ (t : Bool). choose t ((compareStart (joinVerdict p1 (length (p2 .now))) 0) .answer) (choose ((afterFirst (foldGather (clocksOf p1) 0 (gatheringOf ((compareStart (joinVerdict p1 (length (p2 .now))) 0) .span) noNotes) (p2 .now)) (length (p2 .now)) (length (p3 .now))) .stop) ((afterFirst (foldGather (clocksOf p1) 0 (gatheringOf ((compareStart (joinVerdict p1 (length (p2 .now))) 0) .span) noNotes) (p2 .now)) (length (p2 .now)) (length (p3 .now))) .answer) (compareDone (length (p2 .now)) (foldGather (clocksOf p1) 0 (gatheringOf ((compareStart (joinVerdict p1 (length (p2 .now))) 0) .span) noNotes) (p2 .now)) (foldGather (clocksOf p1) 0 (gatheringOf ((afterFirst (foldGather (clocksOf p1) 0 (gatheringOf ((compareStart (joinVerdict p1 (length (p2 .now))) 0) .span) noNotes) (p2 .now)) (length (p2 .now)) (length (p3 .now))) .span) noNotes) (p3 .now))))) (sym (sym (ap (λ (y : CompareStart). y .stop) (e-start)) ∙ holds (r-start .stop) t)))) (LL.owed RCompareStart.the-type LCompareStart.the-laws r-start _ i-start .1 .0)))
+        keep ! (0 ∷ 2 ∷ []) $ by ! (exits (r-start .answer) (LL.val RComparison.the-type LComparison.the-laws (r-start .answer)) (ap (λ (y : CompareStart). y .answer) (e-start) ∙ (ap (λ (t : Bool). choose t ((compareStart (joinVerdict p1 (length (p2 .now))) 0) .answer) (choose ((afterFirst (foldGather (clocksOf p1) 0 (gatheringOf ((compareStart (joinVerdict p1 (length (p2 .now))) 0) .span) noNotes) (p2 .now)) (length (p2 .now)) (length (p3 .now))) .stop) ((afterFirst (foldGather (clocksOf p1) 0 (gatheringOf ((compareStart (joinVerdict p1 (length (p2 .now))) 0) .span) noNotes) (p2 .now)) (length (p2 .now)) (length (p3 .now))) .answer) (compareDone p1 (length (p2 .now)) (foldGather (clocksOf p1) 0 (gatheringOf ((compareStart (joinVerdict p1 (length (p2 .now))) 0) .span) noNotes) (p2 .now)) (foldGather (clocksOf p1) 0 (gatheringOf ((afterFirst (foldGather (clocksOf p1) 0 (gatheringOf ((compareStart (joinVerdict p1 (length (p2 .now))) 0) .span) noNotes) (p2 .now)) (length (p2 .now)) (length (p3 .now))) .span) noNotes) (p3 .now))))) (sym (sym (ap (λ (y : CompareStart). y .stop) (e-start)) ∙ holds (r-start .stop) t)))) (LL.owed RCompareStart.the-type LCompareStart.the-laws r-start _ i-start .1 .0)))
         (λ t. skips ! $ forget ! 10 refl $ by ! (stage-5 r-start e-start i-start (fails (r-start .stop) t)))
 
     abbrev At-3 : List (Entry 𝓤)

@@ -4,12 +4,6 @@ use mathlib.Core.Path.{sym, _∙_}
 use borrow.Author.Needs.{needs}
 use Rattle.comparisons.proofs.compare_done.Statement.{statement}
 use Rattle.comparisons.proofs.compare_done.Tie as tie
-use Rattle.comparisons.proofs.compare_done.Reads as reads
-use Rattle.comparisons.proofs.compare_done.Lts as lts
-use Rattle.open_calls.proofs.Verdict.is_refusal.Reads as is-refusal-reads
-use Rattle.comparisons.proofs.place_after.Reads as place-after-reads
-use Rattle.comparisons.proofs.refused_comparison.Reads as refused-comparison-reads
-use Rattle.comparisons.proofs.relate.Reads as relate-reads
 
 is-refusal-requires : tie.Need-is-refusal-requires
 is-refusal-requires c κs = search needs
@@ -20,8 +14,11 @@ place-after-requires c κs = search needs
 refused-comparison-requires : tie.Need-refused-comparison-requires
 refused-comparison-requires c κs = search needs
 
-relate-requires : tie.Need-relate-requires
-relate-requires c κs = search needs
+relation-of-requires : tie.Need-relation-of-requires
+relation-of-requires c κs = search needs
+
+number-requires : tie.Need-number-requires
+number-requires c κs = search needs
 
 returns : tie.Need-returns
 unfolding compareDone
@@ -29,7 +26,8 @@ returns c = simp (sym (c .before .before .before .is-refusal .ensures) ∙ c .be
 
 returns-2 : tie.Need-returns-2
 unfolding compareDone
-returns-2 c = simp (sym (c .before .before .before .before .is-refusal .ensures) ∙ c .before .before .before .if1 .left, c .relate .ensures)
+returns-2 c = let o = c .before .before in
+    simp (sym (o .before .is-refusal .ensures) ∙ o .if1 .left, c .number .ensures, c .before .relation-of .ensures)
 
 pub compare-done-spec : {M : Type 1} → statement M
 compare-done-spec =
@@ -38,6 +36,7 @@ compare-done-spec =
     is-refusal-requires
     place-after-requires
     refused-comparison-requires
-    relate-requires
+    relation-of-requires
+    number-requires
     returns
     returns-2)

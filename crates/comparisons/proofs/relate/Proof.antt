@@ -1,4 +1,4 @@
--- What is left from place k on, with the relation so far, is the whole.
+-- What is left from place k on, with the replies so far, is the whole.
 use borrow.Author.Needs.{needs}
 use mathlib.Core.Path.{_≡_, _∙_}
 use Prim.Native.Nat.{_≤_, _-_}

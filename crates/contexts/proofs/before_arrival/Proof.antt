@@ -8,6 +8,8 @@ use Rattle.occurrences.specs.Packed.{Notes, Stands, Within}
 use Rattle.occurrences.specs.declared.Occurrence.{Occurrence}
 use Rattle.sequences.proofs.Marks.{padded-end, padded-start}
 use Rattle.sequences.specs.Marks.{padded}
+use Rattle.timestamps.specs.declared.Order.the-variants.{Before}
+use Rattle.timestamps.specs.Comparison.{sameOrder}
 use Rattle.waiting_lists.proofs.Marks.{marks-none}
 use Rattle.waiting_lists.proofs.Waits.{read-at, read-bytes, read-few, read-length, read-place, read-small, waits-few}
 use Rattle.waiting_lists.specs.Lists.{Waits}
@@ -15,14 +17,15 @@ use Rattle.waiting_lists.specs.Marks.{marksOf}
 use borrow.Author.Needs.{needs}
 use lib.ListN.{getD, length, length-map, take}
 use mathlib.Core.List.{List, [], map}
-use mathlib.Core.Path.{_∙_, _≡_}
+use mathlib.Core.Path.{_∙_, _≡_, ap}
 use native.Mathlib.Omega.{arith}
 use Rattle.contexts.proofs.before_arrival.Statement.{statement}
 use Rattle.contexts.proofs.before_arrival.Tie as tie
 use Rattle.contexts.proofs.before_arrival.Reads as reads
 use Rattle.contexts.proofs.before_arrival.Lts as lts
-use Rattle.contexts.proofs.comes_before.Reads as comes-before-reads
 use Rattle.occurrences.proofs.lowest.Reads as lowest-reads
+use Rattle.occurrences.proofs.order.Reads as order-reads
+use Rattle.timestamps.proofs.Order.is.Reads as is-reads
 use Rattle.waiting_lists.proofs.list_of.Reads as list-of-reads
 use Rattle.waiting_lists.proofs.place_at.Reads as place-at-reads
 use Rattle.waiting_lists.proofs.with_mark.Reads as with-mark-reads
@@ -87,36 +90,40 @@ shared-slice-element-lowest c = place-in (c)
 lowest-requires-2 : tie.Need-lowest-requires-2 Inv-loop μ-loop
 lowest-requires-2 c κs = λ k m. bytes-at (c .before) k m .1
 
-mul-comes-before : tie.Need-mul-comes-before Inv-loop μ-loop
-mul-comes-before c =
+mul-order : tie.Need-mul-order Inv-loop μ-loop
+mul-order c =
     let y = c .before .before in
     let q = y .before .before .before in
     let (t, l, x, h, p) = start-of q .pre in
     omega (arith, read-small t (list-at q) l h (q .list-of .result) (q .list-of .ensures) _ _ (y .place-at .ensures) (y .before .loop-test .taken))
 
-shared-slice-element-comes-before : tie.Need-shared-slice-element-comes-before Inv-loop μ-loop
-shared-slice-element-comes-before c = place-in (c .before .before)
+shared-slice-element-order : tie.Need-shared-slice-element-order Inv-loop μ-loop
+shared-slice-element-order c = place-in (c .before .before)
 
-comes-before-requires : tie.Need-comes-before-requires Inv-loop μ-loop
-comes-before-requires c κs =
+order-requires : tie.Need-order-requires Inv-loop μ-loop
+order-requires c κs =
     let y = c .before .before .before in
     let (t, l, x, h, p) = start-of (y .before .before .before) .pre in
     (bytes-at y, stands-within t _ x p)
 
+is-requires : tie.Need-is-requires Inv-loop μ-loop
+is-requires c κs = search needs
+
 with-mark-requires : tie.Need-with-mark-requires Inv-loop μ-loop
 with-mark-requires c κs =
-    let y = c .before .before .before .before in few-at (y .before .before .before) (y .before .before .loop .i) (y .before .loop-test .taken)
+    let y = c .before .before .before .before .before in few-at (y .before .before .before) (y .before .before .loop .i) (y .before .loop-test .taken)
 
 add-i : tie.Need-add-i Inv-loop μ-loop
 add-i c =
-    let y = c .before .before .before .before .before in omega (arith, few-at (y .before .before .before) (y .before .before .loop .i) (y .before .loop-test .taken))
+    let y = c .before .before .before .before .before .before in omega (arith, few-at (y .before .before .before) (y .before .before .loop .i) (y .before .loop-test .taken))
 
 loop-less : tie.Need-loop-less Inv-loop μ-loop
 loop-less c = search needs
 
 loop-again : tie.Need-loop-again Inv-loop μ-loop
+unfolding isBefore
 loop-again c =
-    let v = c .before in
+    let v = c .before .before in
     let low = v .before .before in
     let y = low .before .before in
     let b = y .before .before in
@@ -127,9 +134,11 @@ loop-again c =
           let w = list-at q in
           let len = read-length t w l h (q .list-of .result) (q .list-of .ensures) in
           let in-l : b .loop .i < length l = omega (arith, len, y .before .loop-test .taken) in
+          let is : c .before .is .result ≡ sameOrder (v .order .result) Before = c .before .is .ensures in
           tested-turn l (marksOf (b .loop .marks)) (b .loop .i) in-l (waits-few t w l h) (λ o. isBefore (t .clocks) o x) _ _ (b .loop .inv .1 t l x h p)
-          (v .comes-before .ensures t (getD l (b .loop .i) noOccurrence) x (low .lowest2 .ensures (t .no-global)) (f .lowest .ensures (t .no-global))
-          (read-at t w l h (q .list-of .result) (q .list-of .ensures) _ _ (y .place-at .ensures) (y .before .loop-test .taken)) p) (c .with-mark .ensures),
+          (is ∙ ap (λ word. sameOrder word Before)
+          (v .order .ensures t (getD l (b .loop .i) noOccurrence) x (low .lowest2 .ensures (t .no-global)) (f .lowest .ensures (t .no-global))
+          (read-at t w l h (q .list-of .result) (q .list-of .ensures) _ _ (y .place-at .ensures) (y .before .loop-test .taken)) p)) (c .with-mark .ensures),
     )
 
 returns : tie.Need-returns Inv-loop μ-loop
@@ -155,9 +164,10 @@ before-arrival-spec =
     mul-lowest
     shared-slice-element-lowest
     lowest-requires-2
-    mul-comes-before
-    shared-slice-element-comes-before
-    comes-before-requires
+    mul-order
+    shared-slice-element-order
+    order-requires
+    is-requires
     with-mark-requires
     add-i
     loop-less

@@ -16,7 +16,7 @@ use Rattle.occurrences.proofs.event_at.Reads as event-at-reads
 use Rattle.occurrences.proofs.has_before.Reads as has-before-reads
 
 abbrev Inv-loop : tie.InvT-loop
-Inv-loop low a b ticks globals k₀ k = (k ≤ 8) × ((j : ℕ) → j < k → Both ticks globals b j → hasAt ticks globals a b (low .0) j ≡ true)
+Inv-loop low a b ticks globals k₀ k = (k ≤ 8) × ((j : ℕ) → j < k → Both ticks globals a b j → hasAt ticks globals a b j (low .0) ≡ true)
 
 abbrev μ-loop : tie.MeasureT-loop
 μ-loop low a b ticks globals k₀ k = 8 - k
@@ -51,7 +51,8 @@ returns c =
     let one = second .before .before in
     let at = one .before .before .before in
     let s = at .before .before .before in
-    let e : Both (s .args .ticks .now) (s .args .globals .now) (s .args .b .now) (at .loop .k) → h .has-before .result ≡ hasAt (s .args .ticks .now) (s .args .globals .now) (s .args .a .now) (s .args .b .now) (s .args .low .0) (at .loop .k) =
+    let e : Both (s .args .ticks .now) (s .args .globals .now) (s .args .a .now) (s .args .b .now) (at .loop .k)
+    → h .has-before .result ≡ hasAt (s .args .ticks .now) (s .args .globals .now) (s .args .a .now) (s .args .b .now) (at .loop .k) (s .args .low .0) =
     rw (one .event-at .ensures .0, second .event-at2 .ensures .0) at (h .has-before .ensures)
     in
     λ t x y least p q. sym (before-not t x y _ _ p q _ least (at .loop .k) (one .before .before .loop-test .taken) (λ o. sym (e o) ∙ not-true _ (c .if1 .taken)))
@@ -69,7 +70,8 @@ loop-again c =
     let one = second .before .before in
     let at = one .before .before .before in
     let s = at .before .before .before in
-    let e : Both (s .args .ticks .now) (s .args .globals .now) (s .args .b .now) (at .loop .k) → h .has-before .result ≡ hasAt (s .args .ticks .now) (s .args .globals .now) (s .args .a .now) (s .args .b .now) (s .args .low .0) (at .loop .k) =
+    let e : Both (s .args .ticks .now) (s .args .globals .now) (s .args .a .now) (s .args .b .now) (at .loop .k)
+    → h .has-before .result ≡ hasAt (s .args .ticks .now) (s .args .globals .now) (s .args .a .now) (s .args .b .now) (at .loop .k) (s .args .low .0) =
     rw (one .event-at .ensures .0, second .event-at2 .ensures .0) at (h .has-before .ensures)
     in
     (search needs, next-place _ _ (at .loop .inv .1) (λ o. sym (e o) ∙ not-false _ (c .if1 .left)))

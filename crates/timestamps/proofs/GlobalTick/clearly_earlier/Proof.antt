@@ -1,6 +1,6 @@
 -- One less than the other, where there is one less.
 use Rattle.timestamps.specs.Order.{clearlyEarlier}
-use Rattle.timestamps.proofs.Order.{clear-below, clear-none}
+use Rattle.timestamps.proofs.Stamps.{clear-below, clear-none}
 use borrow.Author.Needs.{needs}
 use Rattle.timestamps.proofs.GlobalTick.clearly_earlier.Statement.{statement}
 use Rattle.timestamps.proofs.GlobalTick.clearly_earlier.Tie as tie
