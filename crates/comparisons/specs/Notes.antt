@@ -73,10 +73,14 @@ pub record NotedList (clocks : Clocks) (l : List Timestamp) (a : Gathering) : Ty
   pub fits : a .span .highest .0 < noLowest
 
 -- ---- one list against another
+-- the tick of a note, if there is one, is earlier than t
+abbrev pub isEarlier : ℕ → LocalTick → Bool
+isEarlier note t = ltb 0 note && ltb (tickOf note .0) (t .0)
+
 -- a list with the note `own` of a logger meets a timestamp of that logger: by their local ticks, or by the global ticks
 unfoldable pub aroundOf : Span → ℕ → LocalTick → GlobalTick → Around
 aroundOf a own t g = record {
-  earlier = clearlyEarlier (a .lowest) g || (ltb 0 own && ltb (tickOf own .0) (t .0));
+  earlier = clearlyEarlier (a .lowest) g || isEarlier own t;
   later = clearlyEarlier g (a .highest) || (ltb 0 own && ltb (t .0) (tickOf own .0));
 }
 
@@ -102,7 +106,7 @@ relatedNotes a first second = fold (λ r k. relatedAt a (noteAt first k) (noteAt
 unfoldable pub hasEarlier : ℕ → GlobalTick → ℕ → ℕ → Bool
 hasEarlier ratio low own note =
     pick (eqb note 0) true
-    (pick (ltb 0 own && ltb (tickOf own .0) (tickOf note .0)) true (clearlyEarlier low (quotient ratio (tickOf note))))
+    (pick (isEarlier own (tickOf note)) true (clearlyEarlier low (quotient ratio (tickOf note))))
 
 unfoldable pub eachHasEarlier : ℕ → GlobalTick → List ℕ → List ℕ → Bool
 eachHasEarlier ratio low first second = eachPasses (λ k. hasEarlier ratio low (noteAt first k) (noteAt second k)) loggerPlaces

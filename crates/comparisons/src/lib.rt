@@ -1,11 +1,11 @@
 // The comparison of two lent lists of timestamps, one of the two calls that stand open to any caller.
 ghost use mathlib.Core.Path.{_≡_};
 ghost use mathlib.Core.Bool.{true, _||_, _&&_};
-ghost use lib.Dec.{ltb};
 ghost use Rattle.timestamps.specs.Order.{clearlyEarlier, clocksOf, valid};
 ghost use Rattle.open_calls.specs.Steps.{joinVerdict};
 ghost use Rattle.comparisons.specs.Answers.{compareAnswer, refusedComparison};
-ghost use Rattle.comparisons.specs.Notes.{aroundOf, eachHasEarlier, gatheringOf, hasEarlier, noNotes, notedDown, orderNoted, relatedAt, relatedNotes, relationNoted, tickOf, widenedBy};
+ghost use Rattle.comparisons.specs.Notes.{aroundOf, gatheringOf, noNotes, notedDown, relatedAt, relatedNotes, widenedBy};
+ghost use Rattle.comparisons.specs.Notes.{eachHasEarlier, hasEarlier, isEarlier, orderNoted, relationNoted};
 ghost use Rattle.comparisons.specs.Steps.{afterFirst, compareDone, compareStart, firstGathered, foldGather, gatherStep, gathered, judgedAs, placeAfter};
 use open_calls::Verdict;
 use timestamps::GlobalTick;
@@ -338,7 +338,7 @@ fn has_earlier(low: GlobalTick, own: u64, note: u64, ratio: u64) -> bool
 
 // The tick of a note, if there is one, is earlier than t.
 fn is_earlier(note: u64, t: LocalTick) -> bool
-    ensures { λ r. ⌜ r ≡ (ltb 0 note && ltb (tickOf note .0) (t .0)) ⌝ }
+    ensures { λ r. ⌜ r ≡ isEarlier note t ⌝ }
 {
     if note == 0 {
         return false;

@@ -72,11 +72,6 @@ module _ (clocks : Clocks) where
     before-is (one-clock e h) = before-one e ∙ lt-ltb _ _ h
     before-is (two-clocks n h) = before-two n ∙ lt-ltb _ _ h
 
-    -- what is before is not of a later global tick
-    pub before-global : Before → global s ≤ global t
-    before-global (one-clock e h) = global-le s t e (omega arith)
-    before-global (two-clocks n h) = omega arith
-
   -- ---- clearly earlier is before, also on one clock
   pub clear-cases : (s t : Timestamp) → global s + 1 < global t → Before s t
   clear-cases s t h = elim (ℕ-discrete (s .logger) (t .logger)) [

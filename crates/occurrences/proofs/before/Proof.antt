@@ -4,7 +4,6 @@ use Rattle.occurrences.proofs.Befores.{Both, before-each, before-not, h
 use Rattle.occurrences.proofs.Steps.{next-place}
 use borrow.Author.Needs.{needs}
 use borrow.Author.Tests.{not-false, not-true}
-use lib.Pow.{low}
 use mathlib.Core.Bool.{true}
 use mathlib.Core.Path.{_∙_, _≡_, sym}
 use native.Mathlib.Omega.{arith}
@@ -44,18 +43,24 @@ has-before-requires c κs =
     let k : in-loop .before .loop .k < 8 = in-loop .loop-test .taken in
     (rw (one .event-at .ensures .0) (s .pre .0 _ k .0), rw (c .event-at2 .ensures .0) (s .pre .1 _ k .0), rw (c .event-at2 .ensures .0) (s .pre .1 _ k .1))
 
+-- ---- what a turn tells of its place
+abbrev Asked : Type 0
+Asked = tie.After-has-before Inv-loop μ-loop
+
+abbrev turn-of : Asked → tie.At-loop Inv-loop μ-loop
+turn-of h = h .before .before .before .before .before .before
+
+abbrev start-of : Asked → tie.Start Inv-loop μ-loop
+start-of h = turn-of h .before .before .before
+
+told : (h : Asked) → Both (start-of h .args .ticks .now) (start-of h .args .globals .now) (start-of h .args .a .now) (start-of h .args .b .now) (turn-of h .loop .k)
+    → h .has-before .result ≡ hasAt (start-of h .args .ticks .now) (start-of h .args .globals .now) (start-of h .args .a .now) (start-of h .args .b .now) (turn-of h .loop .k) (start-of h .args .low .0)
+told h = rw (h .before .before .before .event-at .ensures .0, h .before .event-at2 .ensures .0) at (h .has-before .ensures)
+
 returns : tie.Need-returns Inv-loop μ-loop
 returns c =
     let h = c .before in
-    let second = h .before in
-    let one = second .before .before in
-    let at = one .before .before .before in
-    let s = at .before .before .before in
-    let e : Both (s .args .ticks .now) (s .args .globals .now) (s .args .a .now) (s .args .b .now) (at .loop .k)
-    → h .has-before .result ≡ hasAt (s .args .ticks .now) (s .args .globals .now) (s .args .a .now) (s .args .b .now) (at .loop .k) (s .args .low .0) =
-    rw (one .event-at .ensures .0, second .event-at2 .ensures .0) at (h .has-before .ensures)
-    in
-    λ t x y least p q. sym (before-not t x y _ _ p q _ least (at .loop .k) (one .before .before .loop-test .taken) (λ o. sym (e o) ∙ not-true _ (c .if1 .taken)))
+    λ t x y least p q. sym (before-not t x y _ _ p q _ least (turn-of h .loop .k) (h .before .before .before .before .before .loop-test .taken) (λ o. sym (told h o) ∙ not-true _ (c .if1 .taken)))
 
 add-k : tie.Need-add-k Inv-loop μ-loop
 add-k c = search needs
@@ -66,15 +71,7 @@ loop-less c = search needs
 loop-again : tie.Need-loop-again Inv-loop μ-loop
 loop-again c =
     let h = c .before in
-    let second = h .before in
-    let one = second .before .before in
-    let at = one .before .before .before in
-    let s = at .before .before .before in
-    let e : Both (s .args .ticks .now) (s .args .globals .now) (s .args .a .now) (s .args .b .now) (at .loop .k)
-    → h .has-before .result ≡ hasAt (s .args .ticks .now) (s .args .globals .now) (s .args .a .now) (s .args .b .now) (at .loop .k) (s .args .low .0) =
-    rw (one .event-at .ensures .0, second .event-at2 .ensures .0) at (h .has-before .ensures)
-    in
-    (search needs, next-place _ _ (at .loop .inv .1) (λ o. sym (e o) ∙ not-false _ (c .if1 .left)))
+    (search needs, next-place _ _ (turn-of h .loop .inv .1) (λ o. sym (told h o) ∙ not-false _ (c .if1 .left)))
 
 returns-2 : tie.Need-returns-2 Inv-loop μ-loop
 returns-2 c =

@@ -42,18 +42,24 @@ is-reached-requires c κs =
     let k : in-loop .before .loop .k < 8 = in-loop .loop-test .taken in
     (rw (one .event-at .ensures .0) (s .pre .1 _ k .0), rw (c .event-at2 .ensures .0) (s .pre .0 _ k .0), rw (c .event-at2 .ensures .0) (s .pre .0 _ k .1))
 
+-- ---- what a turn tells of its place
+abbrev Asked : Type 0
+Asked = tie.After-is-reached Inv-loop μ-loop
+
+abbrev turn-of : Asked → tie.At-loop Inv-loop μ-loop
+turn-of h = h .before .before .before .before .before .before
+
+abbrev start-of : Asked → tie.Start Inv-loop μ-loop
+start-of h = turn-of h .before .before .before
+
+told : (h : Asked) → Both (start-of h .args .ticks .now) (start-of h .args .globals .now) (start-of h .args .b .now) (start-of h .args .a .now) (turn-of h .loop .k)
+    → h .is-reached .result ≡ reachedAt (start-of h .args .ticks .now) (start-of h .args .globals .now) (start-of h .args .b .now) (start-of h .args .a .now) (turn-of h .loop .k) (start-of h .args .first .0)
+told h = rw (h .before .before .before .event-at .ensures .0, h .before .event-at2 .ensures .0) at (h .is-reached .ensures)
+
 returns : tie.Need-returns Inv-loop μ-loop
 returns c =
     let h = c .before in
-    let second = h .before in
-    let one = second .before .before in
-    let at = one .before .before .before in
-    let s = at .before .before .before in
-    let e : Both (s .args .ticks .now) (s .args .globals .now) (s .args .b .now) (s .args .a .now) (at .loop .k)
-    → h .is-reached .result ≡ reachedAt (s .args .ticks .now) (s .args .globals .now) (s .args .b .now) (s .args .a .now) (at .loop .k) (s .args .first .0) =
-    rw (one .event-at .ensures .0, second .event-at2 .ensures .0) at (h .is-reached .ensures)
-    in
-    λ t x y least p q. sym (weakly-not t y x _ _ q p _ least (at .loop .k) (one .before .before .loop-test .taken) (λ o. sym (e o) ∙ c .if1 .taken))
+    λ t x y least p q. sym (weakly-not t y x _ _ q p _ least (turn-of h .loop .k) (h .before .before .before .before .before .loop-test .taken) (λ o. sym (told h o) ∙ c .if1 .taken))
 
 add-k : tie.Need-add-k Inv-loop μ-loop
 add-k c = search needs
@@ -64,15 +70,7 @@ loop-less c = search needs
 loop-again : tie.Need-loop-again Inv-loop μ-loop
 loop-again c =
     let h = c .before in
-    let second = h .before in
-    let one = second .before .before in
-    let at = one .before .before .before in
-    let s = at .before .before .before in
-    let e : Both (s .args .ticks .now) (s .args .globals .now) (s .args .b .now) (s .args .a .now) (at .loop .k)
-    → h .is-reached .result ≡ reachedAt (s .args .ticks .now) (s .args .globals .now) (s .args .b .now) (s .args .a .now) (at .loop .k) (s .args .first .0) =
-    rw (one .event-at .ensures .0, second .event-at2 .ensures .0) at (h .is-reached .ensures)
-    in
-    (search needs, next-place _ _ (at .loop .inv .1) (λ o. sym (e o) ∙ c .if1 .left))
+    (search needs, next-place _ _ (turn-of h .loop .inv .1) (λ o. sym (told h o) ∙ c .if1 .left))
 
 returns-2 : tie.Need-returns-2 Inv-loop μ-loop
 returns-2 c =
