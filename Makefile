@@ -29,7 +29,7 @@ help:
 	@echo '                     both on every passage of up to four events, or on one in K'
 	@echo 'make fuzz SECONDS=N  both on altered files, steered by coverage (fuzz/README.md)'
 	@echo 'make bench           the time of all three on the same inputs; STRICT=--strict fails where the library is too slow'
-	@echo 'make profile EVENTS=N NODES=N KIND=sparse|typical|every REPEATS=N'
+	@echo 'make profile EVENTS=N NODES=N KIND=sparse|typical|every|aperiodic|accumulated|absence|mixed REPEATS=N'
 	@echo '                     the instructions of the library by function, counted by callgrind'
 	@echo 'make examples        writes the files of examples/ anew'
 	@echo 'make mutants CRATE=NAME SHARE=K'

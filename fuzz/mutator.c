@@ -5,11 +5,14 @@
 #include <stdbool.h>
 #include <string.h>
 
-#define NODE 6
+#define NODE 8
 #define EVENT 12
 #define MOST_NODES 16
 #define MOST_EVENTS 128
 #define NODE_INPUT 32768
+#define NO_INPUT 65535
+#define SEQ 3 /* it and the operators below have no third input */
+#define OPERATORS 6
 
 size_t LLVMFuzzerMutate(uint8_t *data, size_t size, size_t max_size);
 
@@ -127,10 +130,11 @@ static uint64_t any_input(const struct input *in, size_t earlier)
 static void fill_node(struct input *in, size_t place)
 {
     uint8_t *node = in->nodes.entries + NODE * place;
-    node[0] = (uint8_t)(1 + below(3));
+    node[0] = (uint8_t)(1 + below(OPERATORS));
     node[1] = (uint8_t)(1 + below(4));
     put_number(node + 2, 2, any_input(in, place));
     put_number(node + 4, 2, any_input(in, place));
+    put_number(node + 6, 2, node[0] <= SEQ ? NO_INPUT : any_input(in, place));
 }
 
 static void new_node(struct input *in)

@@ -15,7 +15,7 @@
 #define PAGE 4096
 #define GUARD 64
 #define LENT 32768
-#define NUMBERS 34
+#define NUMBERS 42
 
 struct rathunxa_answer reference_work(const uint8_t *plan, size_t plan_len, const uint8_t *passage, size_t passage_len,
                                       uint8_t *output, size_t output_len);

@@ -1,6 +1,6 @@
-/* File working from C: D1 to D4, the limits, each number 1 to 26 with its place, and which bytes of the output change.
-   All that is expected is written by hand from document 01. Plan P: ratio 10, loggers 1 and 2, kinds 7 and 9, one node
-   "kind 7, then kind 9". */
+/* File working from C: D1 to D4, the operators with a third input, the limits, each number 1 to 26 and 41 with its
+   place, and which bytes of the output change. All that is expected is written by hand from document 01 and request
+   Q-2. Plan P: ratio 10, loggers 1 and 2, kinds 7 and 9, one node "kind 7, then kind 9". */
 #include "rathunxa.h"
 #include <stdio.h>
 #include <stdlib.h>
@@ -14,9 +14,18 @@ _Static_assert(sizeof(struct rathunxa_answer) == 32, "four numbers");
 #define CHRONICLE 2
 #define CONTINUOUS 3
 #define CUMULATIVE 4
+#define APERIODIC 4
+#define ACCUMULATED 5
+#define ABSENCE 6
 
-static const uint8_t PLAN_P[] = {0, 1, 0, 0, 0, 10, 0, 2, 0, 1, 0, 2, 0, 2, 0, 7, 0, 9, 0, 1, 3, 1, 0, 0, 0, 1};
+static const uint8_t PLAN_P[] = {0, 1, 0, 0, 0, 10, 0, 2, 0, 1, 0, 2, 0,   2,
+                                 0, 7, 0, 9, 0, 1,  3, 1, 0, 0, 0, 1, 255, 255};
 enum { RATIO_AT = 2, LOGGERS_AT = 6, KINDS_AT = 12, NODES_AT = 18, NODE_AT = 20, CONTEXT_AT = 21 };
+
+/* One node on the kinds 7, 9 and 11; its operator and context are put in. */
+static const uint8_t PLAN_OF_THREE[] = {0, 1, 0, 0, 0, 10, 0, 2, 0, 1, 0, 2, 0, 3, 0, 7,
+                                        0, 9, 0, 11, 0, 1, 0, 0, 0, 0, 0, 1, 0, 2};
+enum { NODE_OF_THREE_AT = 22 };
 
 /* Kind 7 at 1:80, kind 7 at 1:95, kind 9 at 2:110. */
 static const uint8_t PASSAGE_D[] = {0, 3, 0, 7, 0, 1, 0, 0, 0, 0, 0, 0, 0, 80, 0, 7, 0, 1, 0,
@@ -133,12 +142,17 @@ static void put_event(struct file *passage, uint8_t kind, uint8_t logger, uint16
     passage->bytes[1]++;
 }
 
-/* Kind 7 at 1:80, 1:81 and so on. */
-static struct file lefts(uint8_t count)
+/* A kind at 1:80, 1:81 and so on. */
+static struct file reports(uint8_t kind, uint8_t count)
 {
     struct file passage = {{0}, 2};
-    for (uint8_t i = 0; i < count; i++) put_event(&passage, 7, 1, 80 + i);
+    for (uint8_t i = 0; i < count; i++) put_event(&passage, kind, 1, 80 + i);
     return passage;
+}
+
+static struct file lefts(uint8_t count)
+{
+    return reports(7, count);
 }
 
 /* Findings "node 0 at 2:300 from i,last" for i from 0. */
@@ -175,6 +189,78 @@ static void test_output_lengths(void)
                   ALL(D1));
 }
 
+static struct file plan_of_three(uint8_t operator, uint8_t context)
+{
+    struct file plan = file_of(ALL(PLAN_OF_THREE));
+    plan.bytes[NODE_OF_THREE_AT] = operator;
+    plan.bytes[NODE_OF_THREE_AT + 1] = context;
+    return plan;
+}
+
+/* Kind 7 at 1:80, kind 9 at 1:95, kind 11 at 2:110, kind 9 at 1:120. Aperiodic: the last finds nothing, since the third
+   removed the left. Accumulated: all three in one. Absence: the middle blocks. */
+static void test_intervals(void)
+{
+    static const uint8_t first_two[] = {0, 0, 0, 1, 0, 1, 0, 0, 0, 0, 0, 0, 0, 95, 0, 2, 0, 0, 0, 1};
+    static const uint8_t all_three[] = {0, 0, 0, 1, 0, 2, 0, 0, 0, 0, 0, 0, 0, 110, 0, 3, 0, 0, 0, 1, 0, 2};
+    struct file passage = {{0}, 2};
+    put_event(&passage, 7, 1, 80);
+    put_event(&passage, 9, 1, 95);
+    put_event(&passage, 11, 2, 110);
+    put_event(&passage, 9, 1, 120);
+    for (uint8_t context = RECENT; context <= CUMULATIVE; context++) {
+        struct file plan = plan_of_three(APERIODIC, context);
+        gives("aperiodic", context, bytes_of(&plan), bytes_of(&passage), 100, ANSWER(0, 0, 1, 20), ALL(first_two));
+        plan = plan_of_three(ACCUMULATED, context);
+        gives("accumulated", context, bytes_of(&plan), bytes_of(&passage), 100, ANSWER(0, 0, 1, 22), ALL(all_three));
+        gives("accumulated, 33", context, bytes_of(&plan), bytes_of(&passage), 21, ANSWER(33, 2, 0, 0), NONE);
+        plan = plan_of_three(ABSENCE, context);
+        gives("absence, blocked", context, bytes_of(&plan), bytes_of(&passage), 100, ANSWER(0, 0, 0, 0), NONE);
+    }
+}
+
+/* Kind 7 at 1:80 and 1:95, kind 11 at 2:110 and, too late to take a finding back, kind 9 at 1:97: as D1 to D4. */
+static void test_absence(void)
+{
+    const struct bytes findings[] = {ALL(D1), ALL(D2), ALL(D3), ALL(D4)};
+    const uint64_t counts[] = {1, 1, 2, 1};
+    struct file passage = {{0}, 2};
+    put_event(&passage, 7, 1, 80);
+    put_event(&passage, 7, 1, 95);
+    put_event(&passage, 11, 2, 110);
+    put_event(&passage, 9, 1, 97);
+    for (uint8_t i = 0; i < 4; i++) {
+        struct file plan = plan_of_three(ABSENCE, i + 1);
+        gives("absence", i + 1u, bytes_of(&plan), bytes_of(&passage), 100, ANSWER(0, 0, counts[i], findings[i].length),
+              findings[i]);
+    }
+}
+
+/* 16 of kind 7 or 9 wait, the 17th gives 31. */
+static void test_waiting_of_three(void)
+{
+    for (uint8_t i = 0; i < 4; i++) {
+        uint8_t kind = i % 2 ? 9 : 7;
+        struct file accumulated = plan_of_three(ACCUMULATED, i + 1), absence = plan_of_three(ABSENCE, i + 1);
+        struct file full = reports(kind, 16), more = reports(kind, 17);
+        gives("16 wait, accumulated", i, bytes_of(&accumulated), bytes_of(&full), 9, ANSWER(0, 0, 0, 0), NONE);
+        gives("16 wait, absence", i, bytes_of(&absence), bytes_of(&full), 9, ANSWER(0, 0, 0, 0), NONE);
+        gives("31, accumulated", i, bytes_of(&accumulated), bytes_of(&more), 9, ANSWER(31, 16, 0, 0), NONE);
+        gives("31, absence", i, bytes_of(&absence), bytes_of(&more), 9, ANSWER(31, 16, 0, 0), NONE);
+    }
+}
+
+/* Sixteen middles, a third after them, one more middle. */
+static void test_room_for_middles(void)
+{
+    struct file accumulated = plan_of_three(ACCUMULATED, RECENT), absence = plan_of_three(ABSENCE, RECENT);
+    struct file passage = reports(9, 16);
+    put_event(&passage, 11, 1, 100);
+    put_event(&passage, 9, 1, 101);
+    gives("a third frees middles", 0, bytes_of(&accumulated), bytes_of(&passage), 9, ANSWER(0, 0, 0, 0), NONE);
+    gives("a third frees none", 0, bytes_of(&absence), bytes_of(&passage), 9, ANSWER(31, 17, 0, 0), NONE);
+}
+
 static void test_waiting(void)
 {
     for (uint8_t context = RECENT; context <= CUMULATIVE; context++) {
@@ -192,7 +278,7 @@ static void test_findings_before_31(void)
     gives("31 after a finding", 0, ALL(PLAN_P), bytes_of(&passage), 100, ANSWER(31, 18, 1, 20), ALL(D1));
 }
 
-/* Continuous: a right arrival makes a finding with each that waits. */
+/* Continuous: a middle arrival makes a finding with each that waits. */
 static void test_findings_of_an_event(void)
 {
     struct file plan = plan_p(CONTINUOUS), eight = lefts(8), nine = lefts(9);
@@ -224,8 +310,8 @@ static void test_no_bytes(void)
 /* A file cut at every byte gives the place where the piece that is cut begins. */
 static void test_cuts(void)
 {
-    const uint64_t begins[] = {0,  0,  2,  2,  2,  2,  6,  6,  8,  8,  10, 10, 12,
-                               12, 14, 14, 16, 16, 18, 18, 20, 20, 20, 20, 20, 20};
+    const uint64_t begins[] = {0,  0,  2,  2,  2,  2,  6,  6,  8,  8,  10, 10, 12, 12,
+                               14, 14, 16, 16, 18, 18, 20, 20, 20, 20, 20, 20, 20, 20};
     for (size_t end = 0; end < sizeof PLAN_P; end++)
         turns_back("plan cut", end, (struct bytes){PLAN_P, end}, ALL(PASSAGE_D), RATHUNXA_PLAN_INCOMPLETE, begins[end]);
     for (size_t end = 0; end < sizeof PASSAGE_D; end++)
@@ -258,12 +344,18 @@ static void test_plan_faults(void)
         {NODES_AT, {0, 0}, 2, RATHUNXA_PLAN_NODES, NODES_AT},
         {NODES_AT, {0, 17}, 2, RATHUNXA_PLAN_NODES, NODES_AT},
         {NODES_AT, {0, 2}, 2, RATHUNXA_PLAN_INCOMPLETE, sizeof PLAN_P},
-        {NODE_AT, {0, 0, 9, 9, 9, 9}, 6, RATHUNXA_PLAN_OPERATOR, NODE_AT},
-        {NODE_AT, {4, 0, 9, 9, 9, 9}, 6, RATHUNXA_PLAN_OPERATOR, NODE_AT},
-        {NODE_AT, {3, 0, 9, 9, 9, 9}, 6, RATHUNXA_PLAN_CONTEXT, NODE_AT},
-        {NODE_AT, {3, 5, 9, 9, 9, 9}, 6, RATHUNXA_PLAN_CONTEXT, NODE_AT},
-        {NODE_AT, {3, 1, 0, 2, 0, 1}, 6, RATHUNXA_PLAN_INPUT, NODE_AT},
-        {NODE_AT, {3, 1, 0, 0, 0x80, 0}, 6, RATHUNXA_PLAN_INPUT, NODE_AT},
+        {NODE_AT, {0, 0, 9, 9, 9, 9, 9, 9}, 8, RATHUNXA_PLAN_OPERATOR, NODE_AT},
+        {NODE_AT, {7, 0, 9, 9, 9, 9, 9, 9}, 8, RATHUNXA_PLAN_OPERATOR, NODE_AT},
+        {NODE_AT, {3, 0, 9, 9, 9, 9, 9, 9}, 8, RATHUNXA_PLAN_CONTEXT, NODE_AT},
+        {NODE_AT, {6, 5, 9, 9, 9, 9, 9, 9}, 8, RATHUNXA_PLAN_CONTEXT, NODE_AT},
+        {NODE_AT, {3, 1, 0, 2, 0, 1, 9, 9}, 8, RATHUNXA_PLAN_INPUT, NODE_AT},
+        {NODE_AT, {4, 1, 0, 0, 0x80, 0, 9, 9}, 8, RATHUNXA_PLAN_INPUT, NODE_AT},
+        {NODE_AT, {1, 1, 0, 0, 0, 1, 0, 1}, 8, RATHUNXA_PLAN_THIRD, NODE_AT},
+        {NODE_AT, {2, 1, 0, 0, 0, 1, 0x80, 0}, 8, RATHUNXA_PLAN_THIRD, NODE_AT},
+        {NODE_AT, {3, 1, 0, 0, 0, 1, 0xff, 0xfe}, 8, RATHUNXA_PLAN_THIRD, NODE_AT},
+        {NODE_AT, {4, 1, 0, 0, 0, 1, 0, 2}, 8, RATHUNXA_PLAN_THIRD, NODE_AT},
+        {NODE_AT, {5, 1, 0, 0, 0, 1, 0x80, 0}, 8, RATHUNXA_PLAN_THIRD, NODE_AT},
+        {NODE_AT, {6, 1, 0, 0, 0, 1, 0xff, 0xff}, 8, RATHUNXA_PLAN_THIRD, NODE_AT},
     };
     for (size_t i = 0; i < sizeof faults / sizeof faults[0]; i++) {
         struct file plan = file_of(ALL(PLAN_P));
@@ -305,6 +397,10 @@ int main(void)
 {
     test_examples();
     test_output_lengths();
+    test_intervals();
+    test_absence();
+    test_waiting_of_three();
+    test_room_for_middles();
     test_waiting();
     test_findings_before_31();
     test_findings_of_an_event();

@@ -96,7 +96,7 @@ rising() {
 
 # 8 loggers, 32 kinds and 16 nodes, 128 events: only the last event gives a finding, by the last node.
 longest_files() {
-    hex "00010000000A0008$(rising 8)0020$(rising 32)0010$(repeated 15 030100010001)010100000001" >"$kept/plan"
+    hex "00010000000A0008$(rising 8)0020$(rising 32)0010$(repeated 15 030100010001FFFF)010100000001FFFF" >"$kept/plan"
     hex "0080$(repeated 127 000300010000000000000050)00010008000000000000005A" >"$kept/passage"
     printf 'node 15 at 8:90 from 127\nend 0 0 1 18\n' >"$kept/wanted"
 }
@@ -117,8 +117,8 @@ long_files() {
     local plan=$kept/plan passage=$kept/passage bytes
     longest_files
     prints 'the longest files' "$plan" "$passage" "$kept/wanted"
-    for bytes in 189 100000; do
-        answers "a plan of $bytes bytes" "$(longer "$plan" "$bytes")" "$passage" 'end 12 188 0 0'
+    for bytes in 221 100000; do
+        answers "a plan of $bytes bytes" "$(longer "$plan" "$bytes")" "$passage" 'end 12 220 0 0'
     done
     for bytes in 1539 100000; do
         answers "a passage of $bytes bytes" "$plan" "$(longer "$passage" "$bytes")" 'end 26 1538 0 0'

@@ -10,6 +10,10 @@
 #define THREAD_STACK (256 * 1024)
 #define PAINT 0xc5
 #define NODE_INPUT 32768
+#define NO_INPUT 65535
+#define SEQ 3 /* it and the operators below have no third input */
+#define OPERATORS 6
+#define CONTEXTS 4
 #define DRAWN 400
 
 /* The thread has the upper half. The lower half is painted too, so that a call that goes too deep is seen. */
@@ -78,12 +82,14 @@ static void begin_plan(int nodes)
     put(&call.plan, 2, (uint64_t)nodes);
 }
 
-static void put_node(int operator, int context, int left, int right)
+/* The third input is put where the operator has one. */
+static void put_node(int operator, int context, const int inputs[3])
 {
     put(&call.plan, 1, (uint64_t)operator);
     put(&call.plan, 1, (uint64_t)context);
-    put(&call.plan, 2, (uint64_t)left);
-    put(&call.plan, 2, (uint64_t)right);
+    put(&call.plan, 2, (uint64_t)inputs[0]);
+    put(&call.plan, 2, (uint64_t)inputs[1]);
+    put(&call.plan, 2, operator <= SEQ ? NO_INPUT : (uint64_t)inputs[2]);
 }
 
 static void begin_passage(int events)
@@ -103,16 +109,18 @@ static void put_event(int kind, int logger, uint64_t tick)
 static void nested_plan(int operator, int context)
 {
     begin_plan(RATHUNXA_NODES);
-    put_node(operator, context, 0, 1);
-    for (int i = 1; i < RATHUNXA_NODES; i++) put_node(operator, context, NODE_INPUT + i - 1, 1);
+    put_node(operator, context, (int[]){0, 1, 2});
+    for (int i = 1; i < RATHUNXA_NODES; i++) put_node(operator, context, (int[]){NODE_INPUT + i - 1, 1, 2});
 }
 
-/* 128 events of all loggers; after each `lefts` of kind 0 one of kind 1. */
+/* 128 events of all loggers; after each `lefts` of kind 0 one of kind 1 or, every second time, of kind 2. */
 static void rounds_passage(int lefts)
 {
     begin_passage(RATHUNXA_EVENTS);
-    for (int i = 0; i < RATHUNXA_EVENTS; i++)
-        put_event(i % (lefts + 1) == lefts, i % RATHUNXA_LOGGERS, (uint64_t)(80 + i % RATHUNXA_LOGGERS + 30 * (i / 8)));
+    for (int i = 0; i < RATHUNXA_EVENTS; i++) {
+        int last = i % (lefts + 1) == lefts, kind = last ? 1 + i / (lefts + 1) % 2 : 0;
+        put_event(kind, i % RATHUNXA_LOGGERS, (uint64_t)(80 + i % RATHUNXA_LOGGERS + 30 * (i / 8)));
+    }
 }
 
 static size_t most_used, calls, ended[64];
@@ -128,21 +136,23 @@ static void measure(void)
 /* Each operator in each context, with 1 to 17 that wait for one. */
 static void nested_cases(void)
 {
-    for (int i = 0; i < 3 * 4 * 17; i++) {
-        nested_plan(1 + i / 17 / 4, 1 + i / 17 % 4);
+    for (int i = 0; i < OPERATORS * CONTEXTS * 17; i++) {
+        nested_plan(1 + i / 17 / CONTEXTS, 1 + i / 17 % CONTEXTS);
         rounds_passage(1 + i % 17);
         measure();
     }
 }
 
-/* The left lists of all nodes filled to 16, then one event that meets them all. */
+/* The left lists of all nodes filled to 16, and the middle lists where lefts do not take them, then events that meet
+   them all. */
 static void full_lists(int operator, int context)
 {
     begin_plan(RATHUNXA_NODES);
-    for (int i = 0; i < RATHUNXA_NODES; i++) put_node(operator, context, i % 2 ? NODE_INPUT : 0, 1);
-    begin_passage(RATHUNXA_WAITING + 1);
+    for (int i = 0; i < RATHUNXA_NODES; i++) put_node(operator, context, (int[]){i % 2 ? NODE_INPUT : 0, 1, 2});
+    begin_passage(2 * RATHUNXA_WAITING + 1);
     for (int i = 0; i < RATHUNXA_WAITING; i++) put_event(0, i % RATHUNXA_LOGGERS, 80 + (uint64_t)(i / 8));
-    put_event(1, 7, RATHUNXA_MAX_TICK);
+    for (int i = 0; i < RATHUNXA_WAITING; i++) put_event(1, i % RATHUNXA_LOGGERS, 180 + (uint64_t)(i / 8));
+    put_event(2, 7, RATHUNXA_MAX_TICK);
     measure();
 }
 
@@ -163,7 +173,8 @@ static void drawn_case(void)
 {
     begin_plan(RATHUNXA_NODES);
     for (int i = 0; i < RATHUNXA_NODES; i++)
-        put_node(1 + (int)drawn_below(3), 1 + (int)drawn_below(4), drawn_input(i), drawn_input(i));
+        put_node(1 + (int)drawn_below(OPERATORS), 1 + (int)drawn_below(CONTEXTS),
+                 (int[]){drawn_input(i), drawn_input(i), drawn_input(i)});
     begin_passage(RATHUNXA_EVENTS);
     for (int i = 0; i < RATHUNXA_EVENTS; i++)
         put_event((int)drawn_below(4), (int)drawn_below(8), (uint64_t)(80 + 10 * i) + drawn_below(40));
@@ -173,7 +184,7 @@ static void drawn_case(void)
 /* The largest files with a fault at their very end: a byte too many, a tick too large, an input too large. */
 static void faulty_cases(void)
 {
-    nested_plan(3, 1);
+    nested_plan(4, 1);
     rounds_passage(3);
     call.passage.bytes[call.passage.length - 8] = 0x80;
     measure();
@@ -189,7 +200,7 @@ static void faulty_cases(void)
 int main(void)
 {
     nested_cases();
-    for (int i = 0; i < 3 * 4; i++) full_lists(1 + i / 4, 1 + i % 4);
+    for (int i = 0; i < OPERATORS * CONTEXTS; i++) full_lists(1 + i / CONTEXTS, 1 + i % CONTEXTS);
     for (int i = 0; i < DRAWN; i++) drawn_case();
     faulty_cases();
     for (int i = 0; i < 64; i++)

@@ -40,11 +40,14 @@
  *    Plan     clocks   1        the ratio, 4 bytes, 1 to 1,000,000
  *             loggers  1 to 8   number, 2 bytes, each above the one before
  *             kinds    1 to 32  number, 2 bytes, each above the one before
- *             nodes    1 to 16  operator, 1 byte: 1 OR, 2 AND, 3 SEQ
+ *             nodes    1 to 16  operator, 1 byte: 1 OR, 2 AND, 3 SEQ,
+ *                                                 4 aperiodic, 5 accumulated,
+ *                                                 6 absence
  *                               context, 1 byte: 1 recent, 2 chronicle,
  *                                                3 continuous, 4 cumulative
  *                               left input, 2 bytes
- *                               right input, 2 bytes
+ *                               middle input, 2 bytes
+ *                               third input, 2 bytes; 65,535 with 1 to 3
  *    Passage  events   0 to 128 kind number, 2 bytes
  *                               logger number, 2 bytes
  *                               local tick, 8 bytes, 0 to 2^63 - 1
@@ -54,11 +57,28 @@
  *  the place of an earlier node. Events are numbered from 0.
  *
  *  OR passes on what comes by either input. AND combines what comes by one
- *  input with what waits at the other. SEQ combines what comes by the right
+ *  input with what waits at the other. SEQ combines what comes by the middle
  *  input with what came by the left, waits and is before it. Of those waiting,
  *  recent takes the latest, chronicle the earliest, and each taken makes a
  *  finding; continuous takes all and makes a finding of each; cumulative takes
  *  all and makes one finding of them together.
+ *
+ *  Three operators have an interval, which the third input ends:
+ *  - APERIODIC is SEQ, and what comes by the third input removes the waiting
+ *    lefts before it and makes nothing.
+ *  - ACCUMULATED lets lefts and middles wait. What comes by the third input
+ *    takes of the lefts before it; a finding has those taken, the third, and
+ *    each waiting middle that is after one of those lefts and before the third.
+ *    Then all lefts and middles before the third are removed, in every context
+ *    and also where there was no left to take.
+ *  - ABSENCE lets lefts and middles wait, the middles to the passage's end.
+ *    What comes by the third input takes of the lefts before it that no waiting
+ *    middle blocks: one that the left is weakly before, and that is weakly
+ *    before the third (see rathunxa_compare()). A finding has no middle, and a
+ *    middle that comes late takes none back.
+ *
+ *  What an event brings to a node is taken by the left input, then by the
+ *  middle, then by the third.
  *
  *  @section findings A finding in the output
  *
@@ -146,7 +166,7 @@ extern "C" {
 /** The most findings that a node makes from one event. */
 #define RATHUNXA_FINDINGS 8
 /** The bytes of the longest plan that is allowed. */
-#define RATHUNXA_MAX_PLAN 188
+#define RATHUNXA_MAX_PLAN 220
 /** The bytes of the longest passage that is allowed. */
 #define RATHUNXA_MAX_PASSAGE 1538
 /** The bytes of the longest finding. */
@@ -160,14 +180,14 @@ extern "C" {
 /** The logger place of a blank timestamp; its tick is 0. */
 #define RATHUNXA_BLANK_LOGGER 255
 /** The stack bytes that rathunxa_work() may take. Measured and not proved: on
- *  x86-64 the deepest call took about 21,400. */
+ *  x86-64 the deepest call took about 21,800. */
 #define RATHUNXA_STACK 32768
 /** @} */
 
 /** @defgroup numbers Answer numbers
  *
- *  Of file working: 0, 1 to 12, 21 to 26, 31 to 33. Of the open calls: 0, 34
- *  to 37.
+ *  Of file working: 0, 1 to 12 and 41, 21 to 26, 31 to 33. Of the open calls: 0,
+ *  34 to 37.
  *  @{
  */
 /** Worked. The place is 0. */
@@ -178,9 +198,9 @@ extern "C" {
  *  Both files are checked whole before the first event is worked: the plan,
  *  then the passage, in the order of these numbers; within a section entry by
  *  entry, and an entry must be complete before its fields are read in order.
- *  The first check that fails gives the number. With 1 to 26 the place is the
- *  byte offset in that file where the count or entry begins, findings and
- *  bytes are 0, and the output is as it was.
+ *  The first check that fails gives the number; 41 comes after 11. With 1 to 26
+ *  and 41 the place is the byte offset in that file where the count or entry
+ *  begins, findings and bytes are 0, and the output is as it was.
  *  @{
  */
 /** The plan ends before the next count or entry is complete. */
@@ -199,13 +219,16 @@ extern "C" {
 #define RATHUNXA_PLAN_KIND 7
 /** The count of nodes is not 1 to 16. */
 #define RATHUNXA_PLAN_NODES 8
-/** A node's operator is not 1 to 3. */
+/** A node's operator is not 1 to 6. */
 #define RATHUNXA_PLAN_OPERATOR 9
 /** A node's context is not 1 to 4. */
 #define RATHUNXA_PLAN_CONTEXT 10
-/** A node's left or right input is neither the place of a kind nor 32,768 plus
+/** A node's left or middle input is neither the place of a kind nor 32,768 plus
  *  the place of an earlier node. */
 #define RATHUNXA_PLAN_INPUT 11
+/** A node's third input is not 65,535 with operator 1 to 3, or, with 4 to 6, is
+ *  no input as the left and the middle one must be. */
+#define RATHUNXA_PLAN_THIRD 41
 /** Bytes remain after the plan's last node. The place is the first one's. */
 #define RATHUNXA_PLAN_REST 12
 /** @} */
@@ -281,10 +304,10 @@ extern "C" {
 
 /** What rathunxa_work() answers. */
 struct rathunxa_answer {
-    uint64_t number;   /**< 0, 1 to 12, 21 to 26 or 31 to 33 */
+    uint64_t number;   /**< 0, 1 to 12, 21 to 26, 31 to 33 or 41 */
     uint64_t place;    /**< where the number was met; 0 with number 0 */
-    uint64_t findings; /**< how many findings were written; 0 with 1 to 26 */
-    uint64_t bytes;    /**< how many bytes they take; 0 with 1 to 26 */
+    uint64_t findings; /**< how many findings were written; 0 with 1 to 26, 41 */
+    uint64_t bytes;    /**< how many bytes they take; 0 with 1 to 26, 41 */
 };
 
 /** A timestamp, or an entry of a list. Only its two fields are read: bytes of
@@ -332,7 +355,7 @@ struct rathunxa_comparison {
  *  @return number, place, findings and bytes written. Numbers:
  *  - 0         worked; place 0
  *  - 1 to 12   the plan is turned back, the place is an offset in it, the
- *              output is as it was
+ *    and 41    output is as it was
  *  - 21 to 26  the passage is turned back, the place is an offset in it, the
  *              output is as it was
  *  - 31 to 33  a limit ended the work at the event with the place's number;

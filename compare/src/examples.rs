@@ -1,7 +1,8 @@
 //! The files of examples/. Their README says what each one shows.
 
 use crate::files::{passage_bytes, EventEntry, NodeEntry, PlanFile};
-use crate::files::{AND, CHRONICLE, CONTINUOUS, CUMULATIVE, NODE_INPUT, OR, OUTPUT, RECENT, SEQ};
+use crate::files::{ABSENCE, ACCUMULATED, AND, APERIODIC, NODE_INPUT, OR, OUTPUT, SEQ};
+use crate::files::{CHRONICLE, CONTINUOUS, CUMULATIVE, RECENT};
 use crate::reference;
 use std::path::Path;
 use std::{fs, io};
@@ -46,8 +47,19 @@ pub fn examples() -> Vec<Example> {
         example("output-two-over", &filling_plan(), &filling_reports(14)),
         example("no-events", &plan_p(RECENT), &[]),
         Example { name: "no-bytes", plan: plan_p(RECENT).bytes(), passage: Vec::new() },
-        example("bridge-travel", &bridge_plan(), &bridge_reports([0, 1, 2, 3, 4])),
-        example("bridge-late", &bridge_plan(), &bridge_reports([0, 2, 4, 1, 3])),
+        example("bridge-travel", &bridge_plan(), &in_order(&bridge_reports(), &[0, 1, 2, 3, 4])),
+        example("bridge-late", &bridge_plan(), &in_order(&bridge_reports(), &[0, 2, 4, 1, 3])),
+        example("seventeenth-middle", &plan_of(ACCUMULATED, &[0, 1, 2]), &middles(17)),
+        example("middles-leave", &plan_of(ACCUMULATED, &[0, 1, 2]), &middles_around_a_third()),
+        example("middles-stay", &plan_of(ABSENCE, &[0, 1, 2]), &middles_around_a_third()),
+        example("third-missing", &plan_of(APERIODIC, &[0, 1]), &[]),
+        example("third-unwanted", &plan_of(SEQ, &[0, 1, 2]), &[]),
+        example("knocks-travel", &plan_of(APERIODIC, &[0, 1, 2]), &in_order(&knock_reports(), &[0, 1, 2, 3, 4])),
+        example("knocks-late", &plan_of(APERIODIC, &[0, 1, 2]), &in_order(&knock_reports(), &[0, 1, 4, 3, 2])),
+        example("gathered-travel", &gathering_plan(), &in_order(&gathered_reports(), &[0, 1, 2, 3, 4, 5, 6])),
+        example("gathered-late", &gathering_plan(), &in_order(&gathered_reports(), &[0, 3, 6, 1, 5, 4, 2])),
+        example("relief-travel", &plan_of(ABSENCE, &[0, 1, 0]), &in_order(&relief_reports(), &[0, 1, 2, 3, 4, 5, 6])),
+        example("relief-late", &plan_of(ABSENCE, &[0, 1, 0]), &in_order(&relief_reports(), &[0, 2, 1, 3, 4, 5, 6])),
     ]
 }
 
@@ -59,8 +71,8 @@ fn at(kind: u16, logger: u16, tick: u64) -> EventEntry {
     EventEntry { kind, logger, tick }
 }
 
-fn node(operator: u8, context: u8, left: u16, right: u16) -> NodeEntry {
-    NodeEntry { operator, context, left, right }
+fn node(operator: u8, context: u8, left: u16, middle: u16) -> NodeEntry {
+    NodeEntry::new(operator, context, &[left, middle])
 }
 
 /// The scope document's plan P with another context: kind 7, then kind 9.
@@ -108,8 +120,52 @@ fn bridge_plan() -> PlanFile {
     PlanFile { ratios: vec![10], loggers: vec![1, 2, 3, 4], kinds: vec![1, 2, 3, 4], nodes }
 }
 
-/// The five reports of one lorry, in the given order.
-fn bridge_reports(order: [usize; 5]) -> Vec<EventEntry> {
-    let reports = [at(1, 1, 80), at(2, 2, 90), at(3, 3, 100), at(3, 3, 104), at(4, 4, 125)];
+/// The five reports of one lorry.
+fn bridge_reports() -> [EventEntry; 5] {
+    [at(1, 1, 80), at(2, 2, 90), at(3, 3, 100), at(3, 3, 104), at(4, 4, 125)]
+}
+
+/// Reports in the order of their arrival.
+fn in_order(reports: &[EventEntry], order: &[usize]) -> Vec<EventEntry> {
     order.iter().map(|i| reports[*i]).collect()
+}
+
+/// One recent node on the kinds 1, 2 and 3, with four loggers.
+fn plan_of(operator: u8, inputs: &[u16]) -> PlanFile {
+    let nodes = vec![NodeEntry::new(operator, RECENT, inputs)];
+    PlanFile { ratios: vec![10], loggers: vec![1, 2, 3, 4], kinds: vec![1, 2, 3, 4], nodes }
+}
+
+/// Reports of kind 2, one for each tick from 80.
+fn middles(count: u64) -> Vec<EventEntry> {
+    (0..count).map(|i| at(2, 1, 80 + i)).collect()
+}
+
+/// Sixteen of kind 2, one of kind 3 after them, and one more of kind 2.
+fn middles_around_a_third() -> Vec<EventEntry> {
+    [middles(16), vec![at(3, 1, 100), at(2, 1, 101)]].concat()
+}
+
+/// Kind 1 is a strain's rise, kind 2 a knock, kind 3 the strain's fall. Loggers 1 and 2 are on the two bearings, 3 is
+/// the strain gauge.
+fn knock_reports() -> [EventEntry; 5] {
+    [at(1, 3, 100), at(2, 1, 125), at(2, 2, 131), at(3, 3, 180), at(2, 1, 205)]
+}
+
+/// The fall is that of both gauges together; the knocks between the rise and it make one finding.
+fn gathering_plan() -> PlanFile {
+    let (rise, knock, near_fall, far_fall) = (0, 1, 2, 3);
+    let fall = node(AND, CHRONICLE, near_fall, far_fall);
+    let gathered = NodeEntry::new(ACCUMULATED, CUMULATIVE, &[rise, knock, NODE_INPUT]);
+    PlanFile { nodes: vec![fall, gathered], ..plan_of(OR, &[0, 0]) }
+}
+
+/// As `knock_reports`, and kind 4 is the fall at the far gauge, logger 4.
+fn gathered_reports() -> [EventEntry; 7] {
+    [at(1, 3, 100), at(2, 1, 125), at(2, 2, 131), at(2, 1, 158), at(3, 3, 180), at(4, 4, 186), at(2, 2, 205)]
+}
+
+/// Kind 1 is an axle at logger 1, kind 2 the relief of a strain at logger 2.
+fn relief_reports() -> [EventEntry; 7] {
+    [at(1, 1, 100), at(2, 2, 125), at(1, 1, 140), at(1, 1, 180), at(2, 2, 218), at(1, 1, 220), at(1, 1, 260)]
 }

@@ -6,20 +6,61 @@ use std::fmt;
 pub const OUTPUT: usize = 32_768;
 /// What is added to a node's place where a node is an input.
 pub const NODE_INPUT: u16 = 32_768;
+/// What stands in place of a third input where the operator has none.
+pub const NO_INPUT: u16 = 65_535;
+/// The bytes of a node's entry.
+pub const NODE_BYTES: usize = 8;
 pub const OR: u8 = 1;
 pub const AND: u8 = 2;
 pub const SEQ: u8 = 3;
+pub const APERIODIC: u8 = 4;
+pub const ACCUMULATED: u8 = 5;
+pub const ABSENCE: u8 = 6;
 pub const RECENT: u8 = 1;
 pub const CHRONICLE: u8 = 2;
 pub const CONTINUOUS: u8 = 3;
 pub const CUMULATIVE: u8 = 4;
 
-#[derive(Clone, Copy)]
+#[derive(Clone, Copy, Debug)]
 pub struct NodeEntry {
     pub operator: u8,
     pub context: u8,
     pub left: u16,
-    pub right: u16,
+    pub middle: u16,
+    pub third: u16,
+}
+
+impl NodeEntry {
+    /// A node of an operator of two inputs, or of one of three.
+    pub fn new(operator: u8, context: u8, inputs: &[u16]) -> NodeEntry {
+        let third = inputs.get(2).copied().unwrap_or(NO_INPUT);
+        NodeEntry { operator, context, left: inputs[0], middle: inputs[1], third }
+    }
+
+    /// A node of the first two inputs or, where the operator has a third, of all.
+    pub fn of_three(operator: u8, context: u8, inputs: [u16; 3]) -> NodeEntry {
+        NodeEntry::new(operator, context, if operator <= SEQ { &inputs[..2] } else { &inputs })
+    }
+
+    /// The nodes of a plan that is allowed.
+    pub fn all_of(plan: &[u8]) -> Vec<NodeEntry> {
+        let two = |at: usize| u16::from_be_bytes([plan[at], plan[at + 1]]);
+        let kinds_at = 8 + 2 * usize::from(two(6));
+        let nodes_at = kinds_at + 4 + 2 * usize::from(two(kinds_at));
+        let node = |at: usize| NodeEntry::new(plan[at], plan[at + 1], &[2, 4, 6].map(|from| two(at + from)));
+        (nodes_at..plan.len()).step_by(NODE_BYTES).map(node).collect()
+    }
+
+    /// Left, middle and, where the operator has one, third.
+    pub fn inputs(&self) -> Vec<u16> {
+        let third = (self.third != NO_INPUT).then_some(self.third);
+        [self.left, self.middle].into_iter().chain(third).collect()
+    }
+
+    fn bytes(&self) -> [u8; NODE_BYTES] {
+        let [[l0, l1], [m0, m1], [t0, t1]] = [self.left, self.middle, self.third].map(u16::to_be_bytes);
+        [self.operator, self.context, l0, l1, m0, m1, t0, t1]
+    }
 }
 
 #[derive(Clone)]
@@ -54,11 +95,7 @@ impl PlanFile {
             bytes.extend(numbers.iter().flat_map(|number| number.to_be_bytes()));
         }
         bytes.extend(count(self.nodes.len()));
-        for node in &self.nodes {
-            bytes.extend([node.operator, node.context]);
-            bytes.extend(node.left.to_be_bytes());
-            bytes.extend(node.right.to_be_bytes());
-        }
+        bytes.extend(self.nodes.iter().flat_map(NodeEntry::bytes));
         bytes
     }
 }

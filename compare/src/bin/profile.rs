@@ -6,7 +6,8 @@ use rathunxa_compare::timing::{worked_files, Kind, EVENTS, NODES};
 use std::hint::black_box;
 use std::process::ExitCode;
 
-const USAGE: &str = "usage: profile EVENTS NODES sparse|typical|every REPEATS [library|reference|tuned]";
+const USAGE: &str = "usage: profile EVENTS NODES KIND REPEATS [library|reference|tuned]
+       KIND: sparse, typical, every, aperiodic, accumulated, absence or mixed";
 
 struct Wanted {
     cases: Vec<FileCase>,

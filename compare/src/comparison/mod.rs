@@ -10,7 +10,7 @@ pub use open_calls::{agreed_reply, all_replied_often};
 use crate::generator::Random;
 use std::collections::BTreeMap;
 
-/// How often each answer occurred.
+/// How often each answer occurred, or whatever else is said of a case.
 pub type Totals = BTreeMap<String, u64>;
 
 /// From so many cases on, every answer has to occur.
@@ -25,20 +25,25 @@ pub fn run_all(cases: u64, files: u64, seed: u64) -> Result<(), String> {
     }
     let totals = run("files", files, seed, files::one_pair)?;
     if files >= ENOUGH {
-        files::all_occurred(&totals)?;
+        files::all_occurred(&totals, files)?;
     }
     files::sweep(seed)?;
     println!("no difference");
     Ok(())
 }
 
-/// Runs the cases of one call and prints how often each answer occurred.
-fn run(call: &str, cases: u64, seed: u64, one: fn(&mut Random) -> Result<String, String>) -> Result<Totals, String> {
+/// Runs the cases of one call and prints how often each thing was said of one.
+fn run(
+    call: &str,
+    cases: u64,
+    seed: u64,
+    one: fn(&mut Random) -> Result<Vec<String>, String>,
+) -> Result<Totals, String> {
     let mut totals = Totals::new();
     for i in 0..cases {
-        let answer = one(&mut Random::new(seed, i));
-        let answer = answer.map_err(|what| format!("{call}: DIFFERENCE at case {i} of seed {seed}\n{what}"))?;
-        *totals.entry(answer).or_default() += 1;
+        let said = one(&mut Random::new(seed, i));
+        let said = said.map_err(|what| format!("{call}: DIFFERENCE at case {i} of seed {seed}\n{what}"))?;
+        said.into_iter().for_each(|thing| *totals.entry(thing).or_default() += 1);
     }
     println!("{call}: {cases} cases, seed {seed}");
     print_totals(&totals);

@@ -16,13 +16,13 @@ const REPLIES: [(Order, bool, &str); 5] = [
 /// Each reply has to occur at least once in so many cases.
 const OFTEN: u64 = 100;
 
-pub fn one_join(random: &mut Random) -> Result<String, String> {
+pub fn one_join(random: &mut Random) -> Result<Vec<String>, String> {
     let answer = agreed_join(&join_case(random))?;
-    Ok(format!("number {}", answer.number))
+    Ok(vec![format!("number {}", answer.number)])
 }
 
-pub fn one_comparison(random: &mut Random) -> Result<String, String> {
-    agreed_reply(&compare_case(random))
+pub fn one_comparison(random: &mut Random) -> Result<Vec<String>, String> {
+    agreed_reply(&compare_case(random)).map(|reply| vec![reply])
 }
 
 /// The agreed answer of a comparison in words.

@@ -1,9 +1,11 @@
-//! The passages and the lists are all different, the plans are allowed, and a second join of one set is told.
+//! The passages, the lists and the entries are all different, the plans are allowed, and a second join of one set is
+//! told.
 
 use super::comparisons::lists;
+use super::entries::{entries, work_all};
 use super::joins::Joins;
-use super::passages::{how_many, scattered, LOGGERS, TICKS};
-use super::plans::plans;
+use super::passages::{how_many, LOGGERS, THREE_KINDS, TICKS, TWO_KINDS};
+use super::plans::{interval_plans, pair_plans};
 use crate::files::{passage_bytes, EventEntry};
 use crate::interface::Timestamp;
 use crate::reference::{work, Detection};
@@ -12,15 +14,24 @@ use std::collections::BTreeSet;
 #[test]
 fn passages_are_all_different() {
     assert_eq!((0..=4).map(how_many).collect::<Vec<u64>>(), [1, 36, 1296, 46_656, 1_679_616]);
-    let of_three: BTreeSet<Vec<u8>> = (0..how_many(3)).map(|number| passage_bytes(&scattered(3, number))).collect();
-    assert_eq!(of_three.len(), 46_656);
+    for range in [TWO_KINDS, THREE_KINDS] {
+        let passage = |number| passage_bytes(&range.scattered(3, number));
+        assert_eq!((0..how_many(3)).map(passage).collect::<BTreeSet<Vec<u8>>>().len(), 46_656);
+    }
 }
 
 #[test]
 fn a_36th_part_begins_in_every_way() {
     let part = 0..how_many(4) / 36;
-    let begun: BTreeSet<Vec<u8>> = part.map(|number| passage_bytes(&scattered(4, number)[..3])).collect();
+    let begun: BTreeSet<Vec<u8>> = part.map(|number| passage_bytes(&TWO_KINDS.scattered(4, number)[..3])).collect();
     assert_eq!(begun.len(), 46_656);
+}
+
+#[test]
+fn entries_are_all_different_and_reach_their_numbers() {
+    let all: BTreeSet<String> = entries().map(|entry| format!("{entry:?}")).collect();
+    assert_eq!(all.len(), 8 * 6 * 8 * 8 * 8);
+    assert!(work_all().is_ok());
 }
 
 #[test]
@@ -31,10 +42,10 @@ fn lists_are_all_different() {
 
 #[test]
 fn plans_are_allowed_and_have_every_nesting() {
-    for plan in plans() {
+    for plan in pair_plans().iter().chain(&interval_plans()) {
         assert_eq!(work(&plan.bytes(), &[0, 0], &mut []).number, 0);
     }
-    let nested: BTreeSet<(u8, u8, u8, u8)> = plans()
+    let nested: BTreeSet<(u8, u8, u8, u8)> = pair_plans()
         .iter()
         .filter(|plan| plan.nodes.len() == 10)
         .flat_map(|plan| plan.nodes[1..].iter().map(|outer| (plan.nodes[0], *outer)).collect::<Vec<_>>())

@@ -7,6 +7,8 @@ mod random;
 mod tests;
 #[cfg(test)]
 mod tests_of_files;
+#[cfg(test)]
+mod tests_of_intervals;
 
 pub use files::{file_case, swept_cases};
 pub use open_calls::{compare_case, composite, entries, join_case, CompareCase, JoinCase};

@@ -1,34 +1,34 @@
 //! The generated files reach every number, both sides of each limit, deep nesting and many ties.
 
 use super::{file_case, swept_cases, Random};
-use crate::files::{FileCase, OUTPUT};
+use crate::files::{FileCase, NodeEntry, NODE_INPUT, OUTPUT};
 use crate::interface::Answer;
 use crate::reference::{self, Detection};
 use std::collections::BTreeMap;
 
 const CASES: u64 = 20_000;
-const LEAST: u64 = CASES / 100;
-const RARE: u64 = CASES / 1000;
+pub const LEAST: u64 = CASES / 100;
+pub const RARE: u64 = CASES / 1000;
 
-struct Worked {
-    case: FileCase,
-    answer: Answer,
-    found: Vec<Detection>,
+pub struct Worked {
+    pub case: FileCase,
+    pub answer: Answer,
+    pub found: Vec<Detection>,
 }
 
-fn worked(case: FileCase) -> Worked {
+pub fn worked(case: FileCase) -> Worked {
     let mut output = vec![0; case.output];
     let answer = reference::work(&case.plan, &case.passage, &mut output);
     let found = reference::detections(&output[..answer.bytes as usize]);
     Worked { case, answer, found }
 }
 
-fn all_worked() -> impl Iterator<Item = Worked> {
+pub fn all_worked() -> impl Iterator<Item = Worked> {
     (0..CASES).map(|i| worked(file_case(&mut Random::new(7, i))))
 }
 
 /// In how many cases each of some things holds.
-fn counts<const N: usize>(things: [&dyn Fn(&Worked) -> bool; N]) -> [u64; N] {
+pub fn counts<const N: usize>(things: [&dyn Fn(&Worked) -> bool; N]) -> [u64; N] {
     let mut counts = [0; N];
     for worked in all_worked() {
         things.iter().zip(&mut counts).for_each(|(holds, count)| *count += u64::from(holds(&worked)));
@@ -36,7 +36,7 @@ fn counts<const N: usize>(things: [&dyn Fn(&Worked) -> bool; N]) -> [u64; N] {
     counts
 }
 
-fn two_bytes(file: &[u8], at: usize) -> usize {
+pub fn two_bytes(file: &[u8], at: usize) -> usize {
     usize::from(u16::from_be_bytes([file[at], file[at + 1]]))
 }
 
@@ -44,7 +44,7 @@ fn two_bytes(file: &[u8], at: usize) -> usize {
 fn files_reach_every_number() {
     let mut numbers = BTreeMap::new();
     all_worked().for_each(|worked| *numbers.entry(worked.answer.number).or_insert(0) += 1);
-    let wanted: Vec<u64> = (0..=12).chain(21..=26).chain(31..=33).collect();
+    let wanted: Vec<u64> = (0..=12).chain(21..=26).chain(31..=33).chain([41]).collect();
     assert_eq!(numbers.keys().copied().collect::<Vec<u64>>(), wanted);
     assert!(numbers.values().all(|n| *n >= LEAST), "{numbers:?}");
 }
@@ -64,12 +64,11 @@ fn detections_reach_every_node_all_loggers_and_all_events() {
 
 /// For each node of an accepted plan, how many nodes stand above one another up to it.
 fn depths(plan: &[u8]) -> Vec<usize> {
-    let kinds_at = 8 + 2 * two_bytes(plan, 6);
-    let nodes_at = kinds_at + 2 + 2 * two_bytes(plan, kinds_at);
     let mut depths: Vec<usize> = Vec::new();
-    for node in plan[nodes_at + 2..].chunks(6) {
-        let below = [2, 4].map(|at| two_bytes(node, at).checked_sub(32_768).map_or(0, |place| depths[place]));
-        depths.push(1 + below[0].max(below[1]));
+    for node in NodeEntry::all_of(plan) {
+        let nodes = node.inputs().into_iter().filter_map(|input| input.checked_sub(NODE_INPUT));
+        let below = nodes.map(|place| depths[usize::from(place)]).max().unwrap_or(0);
+        depths.push(1 + below);
     }
     depths
 }
@@ -103,7 +102,7 @@ fn a_node_makes_seven_eight_and_nine_findings_from_an_event() {
 
 /// Where the plan has one node that lets kind 7 wait: how many of it arrive before anything else does.
 fn first_waiting(case: &FileCase) -> usize {
-    let one_node = case.plan.len() == 26 && case.plan[20] > 1;
+    let one_node = case.plan.len() == 30 && case.plan[22] > 1;
     let of_kind_7 = |event: &&[u8]| two_bytes(event, 0) == 7;
     if one_node && case.passage.len() > 2 {
         case.passage[2..].chunks_exact(12).take_while(of_kind_7).count()

@@ -1,6 +1,8 @@
-//! The second implementation, written from the scope document alone, in the most obvious form.
+//! The second implementation, written from the scope document and its change requests alone, in the most obvious form.
 
+mod contexts;
 mod listing;
+mod occurrences;
 mod open_calls;
 mod passages;
 mod plans;

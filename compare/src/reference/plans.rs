@@ -5,12 +5,14 @@ use super::refusal::{require, Refusal};
 
 /// What is added to a node's place where a node is an input.
 pub const NODE_INPUT: u64 = 32_768;
+/// What operators 1 to 3 carry in place of a third input.
+const NO_INPUT: u64 = 65_535;
 
 pub struct Node {
     pub operator: u64,
     pub context: u64,
-    pub left: u64,
-    pub right: u64,
+    /// Left, middle and, of operators 4 to 6, third.
+    pub inputs: Vec<u64>,
 }
 
 pub struct Plan {
@@ -53,19 +55,25 @@ fn read_rising(reader: &mut Reader, most: u64, count_number: u64, entry_number: 
 
 fn read_nodes(reader: &mut Reader, kinds: u64) -> Result<Vec<Node>, Refusal> {
     let count = reader.count(1, 16, 8)?;
-    let mut nodes = Vec::new();
-    for earlier in 0..count {
-        let entry = reader.piece(6)?;
-        let allowed = |input| input < kinds || (NODE_INPUT..NODE_INPUT + earlier).contains(&input);
-        let operator = entry.integer(0, 1);
-        require((1..=3).contains(&operator), 9, entry.place)?;
-        let context = entry.integer(1, 1);
-        require((1..=4).contains(&context), 10, entry.place)?;
-        let left = entry.integer(2, 2);
-        require(allowed(left), 11, entry.place)?;
-        let right = entry.integer(4, 2);
-        require(allowed(right), 11, entry.place)?;
-        nodes.push(Node { operator, context, left, right });
+    (0..count).map(|earlier| read_node(reader, kinds, earlier)).collect()
+}
+
+fn read_node(reader: &mut Reader, kinds: u64, earlier: u64) -> Result<Node, Refusal> {
+    let entry = reader.piece(8)?;
+    let is_input = |input| input < kinds || (NODE_INPUT..NODE_INPUT + earlier).contains(&input);
+    let operator = entry.integer(0, 1);
+    require((1..=6).contains(&operator), 9, entry.place)?;
+    let context = entry.integer(1, 1);
+    require((1..=4).contains(&context), 10, entry.place)?;
+    let left = entry.integer(2, 2);
+    require(is_input(left), 11, entry.place)?;
+    let middle = entry.integer(4, 2);
+    require(is_input(middle), 11, entry.place)?;
+    let third = entry.integer(6, 2);
+    if operator <= 3 {
+        require(third == NO_INPUT, 41, entry.place)?;
+        return Ok(Node { operator, context, inputs: vec![left, middle] });
     }
-    Ok(nodes)
+    require(is_input(third), 41, entry.place)?;
+    Ok(Node { operator, context, inputs: vec![left, middle, third] })
 }

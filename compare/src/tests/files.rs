@@ -1,4 +1,4 @@
-//! D1 to D4, the limits, and the refusals 1 to 26 with their places.
+//! D1 to D4, the limits, and the refusals 1 to 26 and 41 with their places.
 
 use crate::comparison::agreed_work;
 use crate::examples::{examples, plan_p};
@@ -7,14 +7,14 @@ use crate::generator::{file_case, Random};
 use crate::interface::{Answer, Timestamp};
 use crate::reference::{detections, latest, listing, Detection};
 
-const PLAN_P: [u8; 26] = [0, 1, 0, 0, 0, 10, 0, 2, 0, 1, 0, 2, 0, 2, 0, 7, 0, 9, 0, 1, 3, 1, 0, 0, 0, 1];
+const PLAN_P: [u8; 28] = [0, 1, 0, 0, 0, 10, 0, 2, 0, 1, 0, 2, 0, 2, 0, 7, 0, 9, 0, 1, 3, 1, 0, 0, 0, 1, 255, 255];
 
 fn passage_d() -> Vec<u8> {
     let event = |kind, logger, tick| EventEntry { kind, logger, tick };
     passage_bytes(&[event(7, 1, 80), event(7, 1, 95), event(9, 2, 110)])
 }
 
-fn answer(number: u64, place: u64, findings: u64, bytes: u64) -> Answer {
+pub fn answer(number: u64, place: u64, findings: u64, bytes: u64) -> Answer {
     Answer { number, place, findings, bytes }
 }
 
@@ -26,7 +26,7 @@ fn work(plan: &[u8], passage: &[u8], output: &mut [u8]) -> Answer {
     answer
 }
 
-fn worked(plan: &[u8], passage: &[u8]) -> (Answer, Vec<Detection>) {
+pub fn worked(plan: &[u8], passage: &[u8]) -> (Answer, Vec<Detection>) {
     let mut output = [0; OUTPUT];
     let answer = work(plan, passage, &mut output);
     (answer, detections(&output[..answer.bytes as usize]))
@@ -129,7 +129,7 @@ fn altered(at: usize, bytes: &[u8]) -> Vec<u8> {
 
 #[test]
 fn plan_refusals() {
-    let cases: [(usize, &[u8], u64, u64); 16] = [
+    let cases: [(usize, &[u8], u64, u64); 18] = [
         (0, &[0, 0], 2, 0),
         (0, &[0, 2], 2, 0),
         (2, &[0, 0, 0, 0], 3, 2),
@@ -142,21 +142,23 @@ fn plan_refusals() {
         (16, &[0, 7], 7, 16),
         (18, &[0, 0], 8, 18),
         (18, &[0, 17], 8, 18),
-        (20, &[4, 9], 9, 20),
+        (20, &[0, 9], 9, 20),
+        (20, &[7, 9], 9, 20),
         (21, &[5, 9], 10, 20),
         (22, &[0, 2], 11, 20),
         (24, &[128, 0], 11, 20),
+        (26, &[0, 1], 41, 20),
     ];
     for (at, bytes, number, place) in cases {
         assert_eq!(worked(&altered(at, bytes), &passage_d()).0, answer(number, place, 0, 0), "{bytes:?} at {at}");
     }
-    assert_eq!(worked(&[PLAN_P.to_vec(), vec![0]].concat(), &[]).0, answer(12, 26, 0, 0));
-    assert_eq!(worked(&altered(18, &[0, 2]), &[]).0, answer(1, 26, 0, 0));
+    assert_eq!(worked(&[PLAN_P.to_vec(), vec![0]].concat(), &[]).0, answer(12, 28, 0, 0));
+    assert_eq!(worked(&altered(18, &[0, 2]), &[]).0, answer(1, 28, 0, 0));
 }
 
 #[test]
 fn a_cut_plan_gives_1_where_the_piece_begins() {
-    let begins = [0, 2, 6, 8, 10, 12, 14, 16, 18, 20, 26];
+    let begins = [0, 2, 6, 8, 10, 12, 14, 16, 18, 20, 28];
     for end in 0..PLAN_P.len() {
         let place = begins.iter().rev().find(|begin| **begin <= end).copied().unwrap_or(0);
         assert_eq!(worked(&PLAN_P[..end], &passage_d()).0, answer(1, place as u64, 0, 0), "cut at {end}");
@@ -196,7 +198,7 @@ fn recent_keeps_those_taken_and_those_that_are_no_candidates() {
 #[test]
 fn both_inputs_may_be_the_same() {
     let mut plan = plan_p(2);
-    plan.nodes = vec![NodeEntry { operator: 2, context: 2, left: 0, right: 0 }];
+    plan.nodes = vec![NodeEntry::new(2, 2, &[0, 0])];
     let events = [EventEntry { kind: 7, logger: 1, tick: 80 }, EventEntry { kind: 7, logger: 1, tick: 81 }];
     let (_, found) = worked(&plan.bytes(), &passage_bytes(&events));
     let events: Vec<&[u64]> = found.iter().map(|detection| &detection.events[..]).collect();
@@ -212,6 +214,34 @@ fn the_same_reports_in_two_orders() {
                 node 2 at 2:90,3:100 from 1,3\nnode 3 at 2:90,3:100 from 0,1,3\nend 0 0 5 144\n";
     assert_eq!(listed("bridge-travel"), travel);
     assert_eq!(listed("bridge-late"), late);
+}
+
+#[test]
+fn knocks_between_a_rise_and_a_fall() {
+    let travel = "node 0 at 1:125 from 0,1\nnode 0 at 2:131 from 0,2\nend 0 0 2 40\n";
+    let late = "node 0 at 1:125 from 0,1\nnode 0 at 1:205 from 0,2\nend 0 0 2 40\n";
+    assert_eq!([listed("knocks-travel"), listed("knocks-late")], [travel, late]);
+}
+
+#[test]
+fn all_knocks_of_one_bending() {
+    let travel = "node 0 at 3:180,4:186 from 4,5\nnode 1 at 3:180,4:186 from 0,1,2,3,4,5\nend 0 0 2 68\n";
+    let late = "node 0 at 3:180,4:186 from 4,5\nnode 1 at 3:180,4:186 from 0,1,3,4,5\nend 0 0 2 66\n";
+    assert_eq!([listed("gathered-travel"), listed("gathered-late")], [travel, late]);
+}
+
+#[test]
+fn no_relief_between_two_axles() {
+    let travel = "node 0 at 1:180 from 2,3\nend 0 0 1 20\n";
+    let late = "node 0 at 1:140 from 0,1\nnode 0 at 1:180 from 1,3\nend 0 0 2 40\n";
+    assert_eq!([listed("relief-travel"), listed("relief-late")], [travel, late]);
+}
+
+#[test]
+fn limits_of_middles_and_faults_of_thirds() {
+    let names = ["seventeenth-middle", "middles-leave", "middles-stay", "third-missing", "third-unwanted"];
+    let wanted = ["end 31 16 0 0\n", "end 0 0 0 0\n", "end 31 17 0 0\n", "end 41 28 0 0\n", "end 41 28 0 0\n"];
+    assert_eq!(names.map(listed), wanted);
 }
 
 /// The events' timestamps as the passage has them, with logger numbers in place of logger places.

@@ -2,7 +2,7 @@
 
 use super::Kind;
 
-/// Typical files of eight events and more.
+/// Typical files of eight events and more, whatever their operators.
 const TYPICAL: f64 = 1.05;
 /// A passage of one event.
 const ONE_EVENT: f64 = 1.7;
@@ -14,8 +14,8 @@ pub const ANY: f64 = 1.5;
 pub fn of_files(kind: Kind, events: usize) -> f64 {
     match (kind, events) {
         (_, 1) => ONE_EVENT,
-        (Kind::Typical, _) => TYPICAL,
-        _ => ANY,
+        (Kind::Sparse | Kind::Every, _) => ANY,
+        _ => TYPICAL,
     }
 }
 

@@ -1,4 +1,4 @@
-//! Passages of 1, 8, 32 and 128 events under plans of 1, 4 and 16 nodes.
+//! Passages of up to 128 events under plans of up to 16 nodes.
 
 use super::shapes::{worked_files, Files, Kind};
 use super::{aims, best_times, Row, Task};
@@ -8,7 +8,8 @@ use std::hint::black_box;
 
 pub fn time_files(kind: Kind) -> Vec<Row> {
     let files = worked_files(kind);
-    let sizes = [1, 4, 16].into_iter().flat_map(|nodes| [1, 8, 32, 128].map(|events| (events, nodes)));
+    let (events, nodes) = kind.sizes();
+    let sizes = nodes.iter().flat_map(|nodes| events.iter().map(move |events| (*events, *nodes)));
     sizes.map(|(events, nodes)| time_size(kind, &files, events, nodes)).collect()
 }
 
@@ -35,7 +36,7 @@ fn time_size(kind: Kind, files: &[Files], events: usize, nodes: usize) -> Row {
         output,
     );
     Row {
-        label: format!("work {:<7} {events:>3} events {nodes:>2} nodes", kind.name()),
+        label: format!("work {:<11} {events:>3} events {nodes:>2} nodes", kind.name()),
         library,
         reference: of_reference,
         tuned,

@@ -1,7 +1,8 @@
 //! Plans and passages of a chosen size, all worked to their end.
 
 use crate::files::{passage_bytes, EventEntry, FileCase, NodeEntry, PlanFile};
-use crate::files::{AND, CHRONICLE, CONTINUOUS, CUMULATIVE, NODE_INPUT, OR, OUTPUT, RECENT, SEQ};
+use crate::files::{ABSENCE, ACCUMULATED, AND, APERIODIC, NODE_INPUT, OR, OUTPUT, SEQ};
+use crate::files::{CHRONICLE, CONTINUOUS, CUMULATIVE, RECENT};
 use crate::generator::Random;
 use crate::reference;
 
@@ -19,25 +20,66 @@ pub enum Kind {
     Typical,
     /// Every event reaches every node, and what waits is soon consumed.
     Every,
+    /// As typical, with nodes of one operator.
+    Aperiodic,
+    Accumulated,
+    Absence,
+    /// All six operators; every second node takes what the one before makes.
+    Mixed,
 }
 
 impl Kind {
-    pub const ALL: [Kind; 3] = [Kind::Sparse, Kind::Typical, Kind::Every];
+    pub const ALL: [Kind; 7] =
+        [Kind::Sparse, Kind::Typical, Kind::Every, Kind::Aperiodic, Kind::Accumulated, Kind::Absence, Kind::Mixed];
 
     pub fn name(self) -> &'static str {
         match self {
             Kind::Sparse => "sparse",
             Kind::Typical => "typical",
             Kind::Every => "every",
+            Kind::Aperiodic => "aperiodic",
+            Kind::Accumulated => "accumulated",
+            Kind::Absence => "absence",
+            Kind::Mixed => "mixed",
         }
     }
 
-    /// How many kinds of event the plan lists, and how many of them nodes take.
+    /// The numbers of events and of nodes that are timed.
+    pub fn sizes(self) -> (&'static [usize], &'static [usize]) {
+        match self {
+            Kind::Sparse | Kind::Typical | Kind::Every => (&[1, 8, 32, 128], &[1, 4, 16]),
+            Kind::Aperiodic | Kind::Accumulated | Kind::Absence => (&[8, 32, 128], &[4]),
+            Kind::Mixed => (&[8, 32, 128], &[16]),
+        }
+    }
+
+    /// How many kinds of event the plan lists, and how many of them nodes take. A middle of absence never leaves, so of
+    /// each kind there may be 16 events in all.
     fn kinds(self) -> (u16, u16) {
         match self {
             Kind::Sparse => (32, 4),
-            Kind::Typical => (8, 8),
+            Kind::Typical | Kind::Aperiodic | Kind::Accumulated => (8, 8),
             Kind::Every => (2, 2),
+            Kind::Absence | Kind::Mixed => (16, 16),
+        }
+    }
+
+    fn operators(self) -> &'static [u8] {
+        match self {
+            Kind::Sparse | Kind::Typical | Kind::Every => &[OR, AND, AND, SEQ, SEQ],
+            Kind::Aperiodic => &[APERIODIC],
+            Kind::Accumulated => &[ACCUMULATED],
+            Kind::Absence => &[ABSENCE],
+            Kind::Mixed => &[OR, AND, SEQ, APERIODIC, ACCUMULATED, ABSENCE],
+        }
+    }
+
+    /// Of so many nodes the last takes what the one before makes; 0: none does.
+    fn fed(self) -> u16 {
+        match self {
+            Kind::Every => 0,
+            Kind::Mixed => 2,
+            _ => 4,
         }
     }
 }
@@ -80,19 +122,18 @@ fn files(random: &mut Random, kind: Kind) -> Files {
     Files { plan, events }
 }
 
-/// Two kinds; but where not every event is to reach it, each fourth node takes what the one before makes, and a kind.
+/// Two or three kinds that follow each other; what the node before makes comes in place of the left one.
 fn node(random: &mut Random, kind: Kind, place: u16, taken: u16) -> NodeEntry {
-    let (contexts, is_fed) = match kind {
-        Kind::Every => (&[CHRONICLE, CONTINUOUS, CUMULATIVE][..], false),
-        _ => (&[RECENT, CHRONICLE, CONTINUOUS, CUMULATIVE][..], place % 4 == 3),
+    let contexts = match kind {
+        Kind::Every => &[CHRONICLE, CONTINUOUS, CUMULATIVE][..],
+        _ => &[RECENT, CHRONICLE, CONTINUOUS, CUMULATIVE],
     };
+    let is_fed = (place + 1).checked_rem(kind.fed()) == Some(0);
     let first = random.below(u64::from(taken)) as u16;
-    NodeEntry {
-        operator: random.pick(&[OR, AND, AND, SEQ, SEQ]),
-        context: random.pick(contexts),
-        left: if is_fed { NODE_INPUT + place - 1 } else { first },
-        right: (first + 1) % taken,
-    }
+    let left = if is_fed { NODE_INPUT + place - 1 } else { first };
+    let operator = random.pick(kind.operators());
+    let inputs = [left, (first + 1) % taken, (first + 2) % taken];
+    NodeEntry::of_three(operator, random.pick(contexts), inputs)
 }
 
 fn any_kinds(random: &mut Random, listed: u16) -> Vec<u16> {
@@ -117,8 +158,7 @@ mod tests {
 
     /// How many nodes take an event itself. Kind n has place n - 1.
     fn takers(files: &Files, event: &EventEntry) -> usize {
-        let takes = |input: u16| input == event.kind - 1;
-        files.plan.nodes.iter().filter(|node| takes(node.left) || takes(node.right)).count()
+        files.plan.nodes.iter().filter(|node| node.inputs().contains(&(event.kind - 1))).count()
     }
 
     #[test]
@@ -137,6 +177,18 @@ mod tests {
             let whole = files.part(EVENTS, NODES);
             let answer = reference::work(&whole.plan, &whole.passage, &mut [0; OUTPUT]);
             assert!(answer.findings > 100, "{answer:?}");
+        }
+    }
+
+    #[test]
+    fn nodes_of_three_inputs_make_findings() {
+        for kind in [Kind::Aperiodic, Kind::Accumulated, Kind::Absence, Kind::Mixed] {
+            let nodes = kind.sizes().1[0];
+            let parts = worked_files(kind).into_iter().map(|files| files.part(EVENTS, nodes));
+            let answers = parts.map(|part| reference::work(&part.plan, &part.passage, &mut [0; OUTPUT]));
+            let found: Vec<u64> = answers.map(|answer| answer.findings).collect();
+            assert!(found.iter().all(|findings| *findings > 0), "{kind:?}: {found:?}");
+            assert!(found.iter().sum::<u64>() > 100, "{kind:?}: {found:?}");
         }
     }
 

@@ -18,7 +18,7 @@ pub fn print_heading() {
     println!("ns per call; aim: the most that lib/tuned should be");
     println!("x2: the library's time for all over its time for half of them");
     println!(
-        "{:<32}{:>9}{:>10}{:>8}{:>10}{:>6}{:>8}{:>10}{:>9}",
+        "{:<36}{:>9}{:>10}{:>8}{:>10}{:>6}{:>8}{:>10}{:>9}",
         "", "library", "reference", "tuned", "lib/tuned", "aim", "lib/ref", "events x2", "nodes x2"
     );
 }
@@ -40,7 +40,7 @@ impl Row {
     pub fn print(&self) {
         let ratio = |times: Option<f64>| times.map_or("-".to_string(), |times| format!("{times:.2}"));
         println!(
-            "{:<32}{:>9.0}{:>10.0}{:>8.0}{:>10.2}{:>6.2}{:>8.2}{:>10}{:>9}{}",
+            "{:<36}{:>9.0}{:>10.0}{:>8.0}{:>10.2}{:>6.2}{:>8.2}{:>10}{:>9}{}",
             self.label,
             self.library,
             self.reference,

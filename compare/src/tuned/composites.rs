@@ -47,6 +47,14 @@ pub trait Composite {
         (order, of_a == 0)
     }
 
+    /// Whether no timestamp of the other is before one of this.
+    #[inline]
+    fn is_weakly_before(&self, other: &Self) -> bool {
+        let (a, b) = (self.span(), other.span());
+        a.highest <= b.lowest + 1
+            && Bits(u64::from(a.present & b.present)).all(|logger| self.tick(logger) <= other.tick(logger))
+    }
+
     /// The loggers with a global tick above the other's lowest plus 1. That one is before them also where it is of the
     /// same logger: then its local tick is smaller.
     #[inline]

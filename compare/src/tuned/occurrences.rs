@@ -53,6 +53,11 @@ impl Occurrence {
         Timestamps { of: self, events }.compared(&Timestamps { of: other, events }).0
     }
 
+    /// Whether its timestamps are weakly before those of the other.
+    pub fn is_weakly_before(&self, other: &Occurrence, events: &[Event]) -> bool {
+        Timestamps { of: self, events }.is_weakly_before(&Timestamps { of: other, events })
+    }
+
     /// The join of the timestamps of both and the union of their events.
     pub fn joined(&self, other: &Occurrence, events: &[Event]) -> Occurrence {
         let (a, b, both) = (&self.span, &other.span, self.events | other.events);

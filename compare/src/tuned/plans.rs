@@ -2,13 +2,16 @@
 
 use super::fixed::Fixed;
 use super::reader::{Fault, Reader};
-use crate::files::NODE_INPUT;
+use crate::files::{NODE_BYTES, NODE_INPUT, NO_INPUT};
 
 #[derive(Clone, Copy)]
 pub enum Operator {
     Or,
     And,
     Seq,
+    Aperiodic,
+    Accumulated,
+    Absence,
 }
 
 #[derive(Clone, Copy, PartialEq, Eq)]
@@ -19,19 +22,18 @@ pub enum Context {
     Cumulative,
 }
 
-/// The place of a kind or of an earlier node.
-#[derive(Clone, Copy)]
-pub enum Input {
-    Kind(u8),
-    Node(u8),
-}
+/// Where the occurrences of an input come from: a kind has its place, a node NODE_SOURCE plus its place.
+pub type Source = u8;
+pub const NODE_SOURCE: Source = 32;
+/// The third input of an operator that has none: nothing comes from there.
+const NOWHERE: Source = 63;
 
 #[derive(Clone, Copy)]
 pub struct Node {
     pub operator: Operator,
     pub context: Context,
-    /// Left, then right.
-    pub inputs: [Input; 2],
+    /// Left, middle, third.
+    pub inputs: [Source; 3],
 }
 
 pub struct Plan {
@@ -39,17 +41,15 @@ pub struct Plan {
     pub loggers: Fixed<u16, 8>,
     pub kinds: Fixed<u16, 32>,
     pub nodes: Fixed<Node, 16>,
-    /// For each kind, the set of nodes that take it.
-    pub takers_of_kind: [u16; 32],
-    /// For each node, the set of nodes that take what it makes.
-    pub takers_of_node: [u16; 16],
+    /// For each source, the set of nodes that take what comes from there.
+    takers: [u16; 64],
 }
 
 impl Plan {
     #[inline]
     pub fn new() -> Self {
         let (loggers, kinds, nodes) = (Fixed::new(), Fixed::new(), Fixed::new());
-        Plan { ratio: 1, loggers, kinds, nodes, takers_of_kind: [0; 32], takers_of_node: [0; 16] }
+        Plan { ratio: 1, loggers, kinds, nodes, takers: [0; 64] }
     }
 
     /// Fills a new plan from its file.
@@ -67,13 +67,13 @@ impl Plan {
 
     fn add_node(&mut self, node: Node) {
         let itself = 1 << self.nodes.len();
-        for input in node.inputs {
-            match input {
-                Input::Kind(kind) => self.takers_of_kind[kind as usize] |= itself,
-                Input::Node(place) => self.takers_of_node[place as usize] |= itself,
-            }
-        }
+        node.inputs.into_iter().for_each(|source| self.takers[usize::from(source)] |= itself);
         self.nodes.push(node);
+    }
+
+    #[inline]
+    pub fn takers_of(&self, source: Source) -> u16 {
+        self.takers[usize::from(source)]
     }
 }
 
@@ -105,11 +105,14 @@ fn read_rising<const N: usize>(
 
 fn read_node(reader: &mut Reader, kinds: u16, earlier: u16) -> Result<Node, Fault> {
     let place = reader.at;
-    let [operator, context, left @ .., r0, r1] = *reader.piece::<6>()?;
+    let [operator, context, l0, l1, m0, m1, third @ ..] = *reader.piece::<NODE_BYTES>()?;
     let operator = match operator {
         1 => Operator::Or,
         2 => Operator::And,
         3 => Operator::Seq,
+        4 => Operator::Aperiodic,
+        5 => Operator::Accumulated,
+        6 => Operator::Absence,
         _ => return Err(Fault { number: 9, place }),
     };
     let context = match context {
@@ -119,15 +122,25 @@ fn read_node(reader: &mut Reader, kinds: u16, earlier: u16) -> Result<Node, Faul
         4 => Context::Cumulative,
         _ => return Err(Fault { number: 10, place }),
     };
-    let input = |bytes| input(u16::from_be_bytes(bytes), kinds, earlier).ok_or(Fault { number: 11, place });
-    Ok(Node { operator, context, inputs: [input(left)?, input([r0, r1])?] })
+    let source = |bytes| source(u16::from_be_bytes(bytes), kinds, earlier);
+    let (Some(left), Some(middle)) = (source([l0, l1]), source([m0, m1])) else {
+        return Err(Fault { number: 11, place });
+    };
+    let third = match operator {
+        Operator::Or | Operator::And | Operator::Seq => (third == NO_INPUT.to_be_bytes()).then_some(NOWHERE),
+        Operator::Aperiodic | Operator::Accumulated | Operator::Absence => source(third),
+    };
+    let third = third.ok_or(Fault { number: 41, place })?;
+    Ok(Node { operator, context, inputs: [left, middle, third] })
 }
 
-fn input(number: u16, kinds: u16, earlier: u16) -> Option<Input> {
+#[inline]
+fn source(number: u16, kinds: u16, earlier: u16) -> Option<Source> {
+    let node = number.wrapping_sub(NODE_INPUT);
     if number < kinds {
-        Some(Input::Kind(number as u8))
-    } else if (NODE_INPUT..NODE_INPUT + earlier).contains(&number) {
-        Some(Input::Node((number - NODE_INPUT) as u8))
+        Some(number as Source)
+    } else if node < earlier {
+        Some(NODE_SOURCE + node as Source)
     } else {
         None
     }

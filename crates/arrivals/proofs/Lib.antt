@@ -1,5 +1,6 @@
 pub mod Actions
 pub mod Each
+pub mod Groups
 pub mod Meetings
 pub mod Views
 pub mod Waiting

@@ -1,46 +1,47 @@
--- An arrival meets its candidates.
-use mathlib.Core.Bool.{Bool, true, false}
-use mathlib.Core.List.{List, []}
-use mathlib.Core.Path.{_≡_, refl, sym}
-use Rattle.sequences.specs.Choice.{pick}
-use Rattle.sequences.specs.Marks.{marked, unmarked}
+-- Without candidates nothing is taken or removed.
+use mathlib.Core.Bool.{Bool, true, false, _&&_}
+use mathlib.Core.List.{List, [], _∷_, zipWith}
+use mathlib.Core.Path.{_≡_, refl, sym, ap, _∙_}
+use Prim.Native.Nat.{ℕ, zero, suc, _≤_}
+use native.Mathlib.Omega.{arith}
+use lib.ListN.{length, replicate}
+use Rattle.sequences.specs.Marks.{firstMark, marked, padded}
+use Rattle.sequences.proofs.Marks.{padded-start}
 use Rattle.timestamps.specs.Order.{Clocks}
 use Rattle.occurrences.specs.declared.Occurrence.{Occurrence}
-use Rattle.contexts.specs.Choice.{chosen}
-use Rattle.contexts.specs.Made.{madeOf}
-use Rattle.contexts.specs.Table.{Context}
-use Rattle.contexts.proofs.Choices.{none-removed}
-use Rattle.contexts.proofs.Findings.{none-made}
-use Rattle.arrivals.specs.Meetings.{findingsOf, restOf}
+use Rattle.waiting_lists.proofs.Marks.{padded-next}
+use Rattle.contexts.specs.Choice.{chosen, removedOf, removes, takenOf, takes}
+use Rattle.contexts.specs.Table.{Removed, untaken, taken, all, Taken, Context}
 
--- the findings, from those that were taken
-pub found-is : (row : Context) (clocks : Clocks) (l : List Occurrence) (candidates taken : List Bool) (o : Occurrence) → taken ≡ chosen row clocks l candidates .taken
-    → madeOf (row .finds) clocks (marked l taken) o ≡ findingsOf row clocks l candidates o
-unfolding findingsOf
-found-is row clocks l candidates taken o e = rw e
+-- no mark at all
+unmarked-all : (m : List Bool) → firstMark m ≡ length m → m ≡ replicate (length m) false
+unfolding firstMark
+unmarked-all [] h = refl
+unmarked-all (true ∷ m) h = absurd (omega arith)
+unmarked-all (false ∷ m) h = ap (λ r. false ∷ r) (unmarked-all m (omega arith))
 
--- what is left, from those that were removed
-pub rest-is : (row : Context) (clocks : Clocks) (l : List Occurrence) (candidates removed : List Bool) → removed ≡ chosen row clocks l candidates .removed
-    → unmarked l removed ≡ restOf row clocks l candidates
-unfolding restOf
-rest-is row clocks l candidates removed e = rw e
+-- none of the candidates is taken
+none-zipped : (f : Occurrence → Bool) (n : ℕ) (l : List Occurrence) → length l ≤ n → padded n (zipWith (λ w c. c && f w) l (replicate n false)) ≡ replicate n false
+unfolding zipWith
+none-zipped f n [] h = sym (padded-start n)
+none-zipped f zero (w ∷ l) h = absurd (omega arith)
+none-zipped f (suc n) (w ∷ l) h = padded-next n false (zipWith (λ w c. c && f w) l (replicate n false)) ∙ ap (λ r. false ∷ r) (none-zipped f n l (omega arith))
 
--- without candidates nothing is made or removed
-pub none-found : (row : Context) (clocks : Clocks) (l : List Occurrence) (candidates : List Bool) (o : Occurrence) → marked l candidates ≡ [] → findingsOf row clocks l candidates o ≡ []
-unfolding findingsOf
-none-found row clocks l candidates o h = none-made row clocks l candidates o h
+none-removes : (x : Removed) (n : ℕ) → zipWith (removes x) (replicate n false) (replicate n false) ≡ replicate n false
+unfolding zipWith removes
+none-removes x zero = refl
+none-removes untaken (suc n) = ap (λ r. false ∷ r) (none-removes untaken n)
+none-removes taken (suc n) = ap (λ r. false ∷ r) (none-removes taken n)
+none-removes all (suc n) = ap (λ r. false ∷ r) (none-removes all n)
 
-pub none-left-out : (row : Context) (clocks : Clocks) (l : List Occurrence) (candidates : List Bool) → marked l candidates ≡ [] → restOf row clocks l candidates ≡ l
-unfolding restOf
-none-left-out row clocks l candidates h = none-removed row clocks l candidates h
+module _ (row : Context) (clocks : Clocks) (l : List Occurrence) (few : length l ≤ 16) (m none : List Bool) (long : length m ≡ 16) (off : firstMark m ≡ 16) (is : none ≡ replicate 16 false) where
+  candidates-none : m ≡ replicate 16 false
+  candidates-none = unmarked-all m (omega arith) ∙ ap (λ n. replicate n false) long
 
--- where a limit is met nothing is removed, and else what is left
-pub stays-by : (b : Bool) (l r : List Occurrence) → b ≡ true → l ≡ pick b l r
-stays-by b l r h = rw h
+  pub takes-none : none ≡ chosen row clocks l m .taken
+  unfolding chosen takenOf
+  takes-none = is ∙ sym (rw candidates-none (none-zipped (takes (row .takes) clocks (marked l (replicate 16 false))) 16 l few))
 
-pub goes-by : (b : Bool) (l r : List Occurrence) → b ≡ false → r ≡ pick b l r
-goes-by b l r h = rw h
-
-pub same-by : (b : Bool) (l r : List Occurrence) → r ≡ l → l ≡ pick b l r
-same-by true l r h = refl
-same-by false l r h = sym h
+  pub removes-none : none ≡ chosen row clocks l m .removed
+  unfolding chosen removedOf
+  removes-none = is ∙ sym (none-removes (row .removes) 16) ∙ sym (ap (λ k. zipWith (removes (row .removes)) k (replicate 16 false)) candidates-none) ∙ ap (zipWith (removes (row .removes)) m) (sym is ∙ takes-none)

@@ -9,9 +9,9 @@ use Rattle.sequences.specs.Select.{somePasses}
 use Rattle.timestamps.specs.Order.{Clocks}
 use Rattle.occurrences.specs.declared.Occurrence.{Occurrence}
 use Rattle.waiting_lists.specs.Waiting.{appendedTo, isFull}
-use Rattle.contexts.specs.Choice.{andCandidates, chosen, seqCandidates}
-use Rattle.contexts.specs.Made.{madeOf}
-use Rattle.contexts.specs.Table.{Afterwards, joins, consumed, Context}
+use Rattle.contexts.specs.Choice.{absenceCandidates, andCandidates, chosen, seqCandidates}
+use Rattle.contexts.specs.Made.{accumulatedOf, madeOf}
+use Rattle.contexts.specs.Table.{Afterwards, joins, consumed, Context, Findings}
 use Rattle.emissions.specs.declared.Limit.{Limit}
 use Rattle.emissions.specs.declared.Limit.the-variants.{None, ListFull}
 use Rattle.emissions.specs.Emissions.{Emitting, emittedAll, ended, reached}
@@ -26,13 +26,17 @@ abbrev pub settingOf : ℕ → Clocks → List ℕ → Setting
 settingOf room clocks loggers = record { room = room; clocks = clocks; loggers = loggers }
 
 -- ---- what an arrival does: it is passed on as a finding; it waits on its own side; it meets those of the other side that are before it; it meets all of the
--- other side, and then waits on its own as the context says; nothing
+-- other side, and then waits on its own as the context says.
+-- Of a third arrival, whose own side is the middle one: it deletes the lefts before it; it accumulates; it finds an absence. Else nothing
 pub data Action : Type 0 where
-  pass wait meet meetAndWait nothing : Action
+  pass wait meet meetAndWait : Action
+  delete accumulate absent nothing : Action
 
 -- the code of each, as the code's table has it
 unfoldable pub actionFrom : ℕ → Action
-actionFrom code = pick (eqb code 0) pass (pick (eqb code 1) wait (pick (eqb code 2) meet (pick (eqb code 3) meetAndWait nothing)))
+actionFrom code =
+    pick (eqb code 0) pass (pick (eqb code 1) wait (pick (eqb code 2) meet (pick (eqb code 3) meetAndWait
+    (pick (eqb code 4) delete (pick (eqb code 5) accumulate (pick (eqb code 6) absent nothing))))))
 
 -- it may come to wait
 unfoldable pub mayWait : Action → Bool
@@ -40,6 +44,9 @@ mayWait pass = false
 mayWait wait = true
 mayWait meet = false
 mayWait meetAndWait = true
+mayWait delete = false
+mayWait accumulate = false
+mayWait absent = false
 mayWait nothing = false
 
 -- ---- a meeting
@@ -51,8 +58,8 @@ pub record Arrival : Type 0 where
   pub place : ℕ
   pub occurrence : Occurrence
 
--- the arrival; what waits on its own side and on the other; of the other side the marks of the candidates, of those taken and of those removed; what is made;
--- whether the arrival then waits
+-- the arrival; what waits on its own side and on the other; of the other side the marks of the candidates, of those taken and of those removed; of its own
+-- side the marks of those removed; what is made; whether the arrival then waits
 pub record Meeting : Type 0 where
   pub arrival : Arrival
   pub own : List Occurrence
@@ -60,31 +67,53 @@ pub record Meeting : Type 0 where
   pub candidates : List Bool
   pub taken : List Bool
   pub removed : List Bool
+  pub cleared : List Bool
   pub made : List Occurrence
   pub waits : Bool
 
 -- the candidates among those of the other side
-unfoldable pub candidatesOf : Action → Clocks → List Occurrence → Occurrence → List Bool
-candidatesOf pass clocks other o = padded 16 []
-candidatesOf wait clocks other o = padded 16 []
-candidatesOf meet clocks other o = seqCandidates clocks other o
-candidatesOf meetAndWait clocks other o = andCandidates other
-candidatesOf nothing clocks other o = padded 16 []
+unfoldable pub candidatesOf : Action → Clocks → (own other : List Occurrence) → Occurrence → List Bool
+candidatesOf pass clocks own other o = padded 16 []
+candidatesOf wait clocks own other o = padded 16 []
+candidatesOf meet clocks own other o = seqCandidates clocks other o
+candidatesOf meetAndWait clocks own other o = andCandidates other
+candidatesOf delete clocks own other o = padded 16 []
+candidatesOf accumulate clocks own other o = seqCandidates clocks other o
+candidatesOf absent clocks own other o = absenceCandidates clocks other own o
+candidatesOf nothing clocks own other o = padded 16 []
 
--- the findings of an arrival with these candidates among those that wait, in waiting order; and what the removal leaves
-unfoldable pub findingsOf : Context → Clocks → List Occurrence → List Bool → Occurrence → List Occurrence
-findingsOf row clocks waiting candidates o = madeOf (row .finds) clocks (marked waiting (chosen row clocks waiting candidates .taken)) o
+-- what is made with those taken: the arrival itself where it is passed on, else its findings; where it accumulates, with the middles of its own side between
+unfoldable pub madeBy : Action → Findings → Clocks → (own those : List Occurrence) → Occurrence → List Occurrence
+madeBy pass finds clocks own those o = o ∷ []
+madeBy wait finds clocks own those o = []
+madeBy meet finds clocks own those o = madeOf finds clocks those o
+madeBy meetAndWait finds clocks own those o = madeOf finds clocks those o
+madeBy delete finds clocks own those o = []
+madeBy accumulate finds clocks own those o = accumulatedOf finds clocks those own o
+madeBy absent finds clocks own those o = madeOf finds clocks those o
+madeBy nothing finds clocks own those o = []
 
-unfoldable pub restOf : Context → Clocks → List Occurrence → List Bool → List Occurrence
-restOf row clocks waiting candidates = unmarked waiting (chosen row clocks waiting candidates .removed)
+-- what is removed of the other side: what the row of the context removes; in its place, where the arrival deletes or accumulates, all that are before it
+unfoldable pub removedBy : Action → Clocks → List Occurrence → List Bool → Occurrence → List Bool
+removedBy pass clocks other removed o = removed
+removedBy wait clocks other removed o = removed
+removedBy meet clocks other removed o = removed
+removedBy meetAndWait clocks other removed o = removed
+removedBy delete clocks other removed o = seqCandidates clocks other o
+removedBy accumulate clocks other removed o = seqCandidates clocks other o
+removedBy absent clocks other removed o = removed
+removedBy nothing clocks other removed o = removed
 
--- what is made: the arrival itself where it is passed on, else its findings
-unfoldable pub madeBy : Action → Context → Clocks → List Occurrence → List Bool → Occurrence → List Occurrence
-madeBy pass row clocks other candidates o = o ∷ []
-madeBy wait row clocks other candidates o = []
-madeBy meet row clocks other candidates o = findingsOf row clocks other candidates o
-madeBy meetAndWait row clocks other candidates o = findingsOf row clocks other candidates o
-madeBy nothing row clocks other candidates o = []
+-- and of its own side: where it accumulates, all middles before it
+unfoldable pub clearedBy : Action → Clocks → List Occurrence → Occurrence → List Bool
+clearedBy pass clocks own o = padded 16 []
+clearedBy wait clocks own o = padded 16 []
+clearedBy meet clocks own o = padded 16 []
+clearedBy meetAndWait clocks own o = padded 16 []
+clearedBy delete clocks own o = padded 16 []
+clearedBy accumulate clocks own o = seqCandidates clocks own o
+clearedBy absent clocks own o = padded 16 []
+clearedBy nothing clocks own o = padded 16 []
 
 -- at AND the arrival joins its own side's list if the row says so or there was no candidate; otherwise it is consumed
 unfoldable pub joinsBy : Afterwards → List Bool → Bool
@@ -96,20 +125,26 @@ waitsBy pass afterwards candidates = false
 waitsBy wait afterwards candidates = true
 waitsBy meet afterwards candidates = false
 waitsBy meetAndWait afterwards candidates = joinsBy afterwards candidates
+waitsBy delete afterwards candidates = false
+waitsBy accumulate afterwards candidates = false
+waitsBy absent afterwards candidates = false
 waitsBy nothing afterwards candidates = false
 
 -- the meeting that an action gives under a context's row
 unfoldable pub meetingOf : Action → Context → Clocks → (own other : List Occurrence) → Arrival → Meeting
 meetingOf action row clocks own other a =
-    let candidates = candidatesOf action clocks other (a .occurrence) in
+    let o = a .occurrence in
+    let candidates = candidatesOf action clocks own other o in
+    let choice = chosen row clocks other candidates in
     record {
       arrival = a;
       own = own;
       other = other;
       candidates = candidates;
-      taken = chosen row clocks other candidates .taken;
-      removed = chosen row clocks other candidates .removed;
-      made = madeBy action row clocks other candidates (a .occurrence);
+      taken = choice .taken;
+      removed = removedBy action clocks other (choice .removed) o;
+      cleared = clearedBy action clocks own o;
+      made = madeBy action (row .finds) clocks own (marked other (choice .taken)) o;
       waits = waitsBy action (row .afterwards) candidates;
     }
 
@@ -134,6 +169,6 @@ appended own other e o = sides (appendedTo own o) other (pick (isFull own) (ende
 unfoldable pub carriedOut : Setting → ℕ → Emitting → Meeting → Sides
 carriedOut s place e m =
     let f = emittedAll (s .room) (s .loggers) place e (m .made) in
-    let rest = unmarked (m .other) (m .removed) in
-    pick (reached (f .limit)) (sides (m .own) (m .other) f)
-    (pick (m .waits) (appended (m .own) rest f (m .arrival .occurrence)) (sides (m .own) rest f))
+    let own = unmarked (m .own) (m .cleared) in
+    let other = unmarked (m .other) (m .removed) in
+    pick (reached (f .limit)) (sides (m .own) (m .other) f) (pick (m .waits) (appended own other f (m .arrival .occurrence)) (sides own other f))

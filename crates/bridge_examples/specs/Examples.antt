@@ -1,4 +1,5 @@
--- Document 01, "Bridge examples": the marked twelve in one table; the limits, and what else the operators leave, in two others.
+-- Document 01, "Bridge examples", with request Q-2: the marked twelve in one table; the limits, what else the operators leave, and the operators with a third
+-- input in three others.
 use mathlib.Core.Bool.{Bool, true, false, _&&_}
 use mathlib.Core.List.{List, [], _∷_, _++_, map}
 use Prim.Native.Nat.{ℕ, _+_}
@@ -32,13 +33,18 @@ holds (ends room plan passage w) = sameWork (worked plan passage room) w
 
 -- ---- plan P and its passage
 
--- plan P with an operator and a context: ratio 10, loggers 1 and 2, kinds 7 and 9, one node with kind 7 on its left and kind 9 on its right
-abbrev pub planWith : ℕ → ℕ → List ℕ
-planWith operator context =
+-- plan P with an operator, a context and the two bytes of a third input: ratio 10, loggers 1 and 2, kinds 7 and 9, one node with kind 7 as its left and
+-- kind 9 as its middle input
+abbrev pub planThird : ℕ → ℕ → ℕ → ℕ → List ℕ
+planThird operator context high low =
     0 ∷ 1 ∷ 0 ∷ 0 ∷ 0 ∷ 0x0A
     ∷ 0 ∷ 2 ∷ 0 ∷ 1 ∷ 0 ∷ 2
     ∷ 0 ∷ 2 ∷ 0 ∷ 7 ∷ 0 ∷ 9
-    ∷ 0 ∷ 1 ∷ operator ∷ context ∷ 0 ∷ 0 ∷ 0 ∷ 1 ∷ []
+    ∷ 0 ∷ 1 ∷ operator ∷ context ∷ 0 ∷ 0 ∷ 0 ∷ 1 ∷ high ∷ low ∷ []
+
+-- without one
+abbrev pub planWith : ℕ → ℕ → List ℕ
+planWith operator context = planThird operator context 0xFF 0xFF
 
 abbrev pub planP : ℕ → List ℕ
 planP context = planWith 3 context
@@ -139,3 +145,53 @@ operators =
     ∷ ends 32768 (planWith 2 1) nineFirst (ending 0 0 2 (at 110 0 1 ++ at 110 0 2))  -- AND recent: all wait on
     ∷ ends 32768 (planWith 1 1) (passage 1 (nine 110)) (ending 0 0 1 (at110 ++ (0 ∷ 1 ∷ 0 ∷ 0 ∷ [])))  -- OR
     ∷ []
+
+-- ---- the operators with a third input
+
+-- a node with an operator and a context, kind 7 as its left input, kind 8 as its middle and kind 9 as its third
+abbrev pub intervalPlan : ℕ → ℕ → List ℕ
+intervalPlan operator context =
+    0 ∷ 1 ∷ 0 ∷ 0 ∷ 0 ∷ 0x0A
+    ∷ 0 ∷ 2 ∷ 0 ∷ 1 ∷ 0 ∷ 2
+    ∷ 0 ∷ 3 ∷ 0 ∷ 7 ∷ 0 ∷ 8 ∷ 0 ∷ 9
+    ∷ 0 ∷ 1 ∷ operator ∷ context ∷ 0 ∷ 0 ∷ 0 ∷ 1 ∷ 0 ∷ 2 ∷ []
+
+-- kind 8 at logger 2
+abbrev eight : ℕ → List ℕ
+eight tick = event 8 2 tick
+
+-- a finding at 2:110 from three events
+abbrev fromThree : ℕ → ℕ → ℕ → List ℕ
+fromThree i j k = at110 ++ (0 ∷ 3 ∷ 0 ∷ i ∷ 0 ∷ j ∷ 0 ∷ k ∷ [])
+
+abbrev aperiodic : List Example
+aperiodic =
+    ends 32768 (intervalPlan 4 1) (passage 3 (seven 80 ++ eight 100 ++ eight 120)) (ending 0 0 2 (at 100 0 1 ++ at 120 0 2))  -- recent: the left waits on
+    ∷ ends 32768 (intervalPlan 4 1) (passage 4 (seven 80 ++ eight 100 ++ nine 110 ++ eight 120)) (ending 0 0 1 (at 100 0 1))  -- the third deletes it
+    ∷ ends 32768 (intervalPlan 4 3) (passage 4 (seven 80 ++ seven 105 ++ nine 110 ++ eight 130)) (ending 0 0 1 (at 130 1 3))  -- and no left that is not before it
+    ∷ []
+
+abbrev accumulated : List Example
+accumulated =
+    ends 32768 (intervalPlan 5 1) (passage 5 (seven 80 ++ eight 90 ++ eight 100 ++ nine 110 ++ nine 120)) (ending 0 0 1 (fromThree 0 2 3))  -- one middle is between; then all went
+    ∷ ends 32768 (intervalPlan 5 3) (passage 4 (seven 80 ++ seven 95 ++ eight 100 ++ nine 110)) (ending 0 0 2 (fromThree 0 2 3 ++ fromTwo 1 3))  -- each with the middles after its own left
+    ∷ ends 32768 (intervalPlan 5 1) (passage 4 (eight 100 ++ nine 110 ++ seven 80 ++ nine 120)) (ending 0 0 1 (at 120 2 3))  -- without candidates too the middle goes
+    ∷ []
+
+abbrev absence : List Example
+absence =
+    ends 32768 (intervalPlan 6 1) (passage 4 (eight 60 ++ eight 120 ++ seven 80 ++ nine 110)) (ending 0 0 1 (at 110 2 3))  -- no middle that is before the left or after the third blocks
+    ∷ ends 32768 (intervalPlan 6 1) (passage 3 (seven 80 ++ eight 90 ++ nine 110)) (ending 0 0 0 [])  -- one that is concurrent with the left does
+    ∷ ends 32768 (intervalPlan 6 1) (passage 4 (seven 80 ++ nine 110 ++ eight 100 ++ nine 120)) (ending 0 0 1 (at 110 0 1))  -- a late one takes no finding back, and blocks from then on
+    ∷ []
+
+-- 41, at the node's entry: a third input that is not 65,535, and one that is no input
+abbrev thirds : List Example
+thirds =
+    ends 32768 (planThird 3 1 0 0) passageP (ending 41 20 0 [])
+    ∷ ends 32768 (planThird 4 1 0xFF 0xFF) passageP (ending 41 20 0 [])
+    ∷ ends 32768 (planThird 4 1 0 0) (passage 0 []) (ending 0 0 0 [])
+    ∷ []
+
+unfoldable pub intervals : List Example
+intervals = aperiodic ++ accumulated ++ absence ++ thirds

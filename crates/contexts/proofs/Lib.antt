@@ -1,3 +1,5 @@
+pub mod Absences
+pub mod Accumulations
 pub mod Choices
 pub mod Combines
 pub mod Findings

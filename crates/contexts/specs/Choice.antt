@@ -5,7 +5,7 @@ use Rattle.sequences.specs.Marks.{marked, padded}
 use Rattle.sequences.specs.Select.{somePasses}
 use Rattle.timestamps.specs.Order.{Clocks}
 use Rattle.occurrences.specs.declared.Occurrence.{Occurrence}
-use Rattle.occurrences.specs.Occurrences.{isBefore}
+use Rattle.occurrences.specs.Occurrences.{isBefore, isWeaklyBefore}
 use Rattle.contexts.specs.Table.{Taken, latest, earliest, every, Removed, untaken, taken, all, Context}
 
 -- SEQ: the candidates are the waiting occurrences whose stamp is before the arrival's; as in the choice below, the word of the comparison tells it
@@ -15,6 +15,14 @@ seqCandidates clocks waiting o = padded 16 (map (λ w. isBefore clocks w o) wait
 -- AND: the candidates are all that wait on the other side
 unfoldable pub andCandidates : List Occurrence → List Bool
 andCandidates waiting = padded 16 (map (λ w. true) waiting)
+
+-- absence: a waiting middle blocks a left of a third arrival, where the left is weakly before it and it is weakly before the third
+unfoldable pub blocks : Clocks → (left third middle : Occurrence) → Bool
+blocks clocks left third middle = isWeaklyBefore clocks left middle && isWeaklyBefore clocks middle third
+
+-- the candidates are the lefts before the third that no waiting middle blocks
+unfoldable pub absenceCandidates : Clocks → (lefts middles : List Occurrence) → Occurrence → List Bool
+absenceCandidates clocks lefts middles o = padded 16 (map (λ l. isBefore clocks l o && not (somePasses (blocks clocks l o) middles)) lefts)
 
 -- a candidate is taken: it is before no other candidate; no other candidate is before it; always.
 -- "Other" needs no word: with at least one stamp an occurrence is not before itself (proofs/Choices.antt, latest-others, earliest-others)

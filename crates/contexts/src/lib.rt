@@ -1,4 +1,4 @@
-// What each context takes, makes and removes: document 01's table of four rows, the choice, and what is made of those taken.
+// What each context takes, makes and removes: document 01's table of four rows, the candidates, the choice, and what is made of those taken.
 use occurrences::Packed;
 use timestamps::GlobalTick;
 use timestamps::Order;
@@ -13,13 +13,14 @@ ghost use Rattle.sequences.specs.Marks.{marked};
 ghost use Rattle.sequences.specs.Select.{somePasses};
 ghost use Rattle.occurrences.specs.declared.Occurrence.{Occurrence};
 ghost use Rattle.occurrences.specs.Combination.{combinedOf};
-ghost use Rattle.occurrences.specs.Occurrences.{noOccurrence};
+ghost use Rattle.occurrences.specs.Occurrences.{isBefore, noOccurrence};
 ghost use Rattle.occurrences.specs.Packed.{Notes, Stands, Within};
 ghost use Rattle.occurrences.specs.Steps.{LowestOf};
-ghost use Rattle.waiting_lists.specs.Lists.{Arrives, Known, Waits, listOf};
+ghost use Rattle.waiting_lists.specs.Lists.{Arrives, Beside, Known, KnownBoth, Waits, listOf};
 ghost use Rattle.waiting_lists.specs.Marks.{marksOf};
-ghost use Rattle.contexts.specs.Choice.{andCandidates, chosen, removedOf, seqCandidates, takenOf, takes};
-ghost use Rattle.contexts.specs.Steps.{Lows, barsBy, barsOf};
+ghost use Rattle.contexts.specs.Choice.{absenceCandidates, andCandidates, blocks, chosen, removedOf, seqCandidates, takenOf, takes};
+ghost use Rattle.contexts.specs.Made.{accumulationOf};
+ghost use Rattle.contexts.specs.Steps.{Lows, Some, afterMarks, barsBy, barsOf};
 ghost use Rattle.contexts.specs.Table.{consumed, contextOf, each, joins, recent, removesOf, rowOf, table, takesOf, together};
 
 // ---- the table
@@ -138,6 +139,113 @@ pub fn all_waiting(n: usize) -> u64
     ensures { λ r. ⌜ ((l : List Occurrence) → length l ≡ n → marksOf r ≡ andCandidates l) ⌝ }
 {
     (1 << n) - 1
+}
+
+// ---- candidates of absence
+
+// Whether a middle blocks a left; with the lowest global ticks of the left and of the third arrival.
+fn is_blocked_by(
+    low: GlobalTick,
+    left: &Packed,
+    middle: &Packed,
+    first: GlobalTick,
+    o: &Packed,
+    ticks: &[u64],
+    globals: &[u64],
+) -> bool
+    requires { ⌜ Within (now ticks) (now globals) (now left) × Within (now ticks) (now globals) (now middle)
+        × Within (now ticks) (now globals) (now o) ⌝ }
+    ensures { λ r. ⌜ ((t : Notes (now (ticks .entry)) (now (globals .entry))) (x y z : Occurrence)
+        → LowestOf (now (globals .entry)) (now (left .entry)) (low .0) → LowestOf (now (globals .entry)) (now (o .entry)) (first .0)
+        → Stands t (now (left .entry)) x → Stands t (now (middle .entry)) y → Stands t (now (o .entry)) z
+        → r ≡ blocks (t .clocks) x z y) ⌝ }
+{
+    let own = occurrences::lowest(middle, globals);
+    if !occurrences::weakly_before(low, left, own, middle, ticks, globals) {
+        return false;
+    }
+    occurrences::weakly_before(own, middle, first, o, ticks, globals)
+}
+
+// Whether a waiting middle blocks it.
+fn is_blocked(
+    left: &Packed,
+    middles: &[Packed],
+    first: GlobalTick,
+    o: &Packed,
+    ticks: &[u64],
+    globals: &[u64],
+) -> bool
+    requires { ⌜ Within (now ticks) (now globals) (now left) × Arrives (now ticks) (now globals) (now middles) (now o) ⌝ }
+    ensures { λ r. ⌜ ((t : Notes (now (ticks .entry)) (now (globals .entry))) (l : List Occurrence) (x z : Occurrence)
+        → LowestOf (now (globals .entry)) (now (o .entry)) (first .0)
+        → Waits t (now (middles .entry)) l → Stands t (now (left .entry)) x → Stands t (now (o .entry)) z
+        → r ≡ somePasses (blocks (t .clocks) x z) l) ⌝ }
+{
+    let low = occurrences::lowest(left, globals);
+    let waiting = waiting_lists::list_of(middles);
+    let n = waiting.len;
+    let mut j: usize = 0;
+    while j < n {
+        let place = waiting_lists::place_at(waiting, j);
+        if is_blocked_by(low, left, &middles[place], first, o, ticks, globals) {
+            return true;
+        }
+        j = j + 1;
+    }
+    false
+}
+
+// Whether a left, where it is before the third arrival, is not blocked.
+fn is_free(
+    is: bool,
+    left: &Packed,
+    middles: &[Packed],
+    first: GlobalTick,
+    o: &Packed,
+    ticks: &[u64],
+    globals: &[u64],
+) -> bool
+    requires { ⌜ Within (now ticks) (now globals) (now left) × Arrives (now ticks) (now globals) (now middles) (now o) ⌝ }
+    ensures { λ r. ⌜ ((t : Notes (now (ticks .entry)) (now (globals .entry))) (l : List Occurrence) (x z : Occurrence)
+        → LowestOf (now (globals .entry)) (now (o .entry)) (first .0)
+        → Waits t (now (middles .entry)) l → Stands t (now (left .entry)) x → Stands t (now (o .entry)) z
+        → r ≡ (is && not (somePasses (blocks (t .clocks) x z) l))) ⌝ }
+{
+    if !is {
+        false
+    } else {
+        !is_blocked(left, middles, first, o, ticks, globals)
+    }
+}
+
+// The lefts before the third arrival that no waiting middle blocks.
+pub fn unblocked(
+    lefts: &[Packed],
+    middles: &[Packed],
+    o: &Packed,
+    ticks: &[u64],
+    globals: &[u64],
+) -> u64
+    requires { ⌜ Beside (now ticks) (now globals) (now lefts) (now middles) (now o) ⌝ }
+    ensures { λ r. ⌜ ((t : Notes (now (ticks .entry)) (now (globals .entry))) (k l : List Occurrence) (x : Occurrence)
+        → Waits t (now (lefts .entry)) k → Waits t (now (middles .entry)) l → Stands t (now (o .entry)) x
+        → marksOf r ≡ absenceCandidates (t .clocks) k l x) ⌝ }
+{
+    let earlier = before_arrival(lefts, o, ticks, globals);
+    let first = occurrences::lowest(o, globals);
+    let waiting = waiting_lists::list_of(lefts);
+    let n = waiting.len;
+    let mut marks: u64 = 0;
+    let mut i: usize = 0;
+    while i < n {
+        let place = waiting_lists::place_at(waiting, i);
+        let is = waiting_lists::is_marked(earlier, i);
+        let free = is_free(is, &lefts[place], middles, first, o, ticks, globals);
+        marks = waiting_lists::with_mark(marks, i, free);
+        i = i + 1;
+    }
+    marks
 }
 
 // ---- the choice
@@ -382,4 +490,103 @@ pub fn all_combined(
         i = next;
     }
     all
+}
+
+// ---- what is accumulated
+
+// Whether one of those marked is before this middle.
+fn some_before(list: &[Packed], marks: u64, middle: &Packed, ticks: &[u64], globals: &[u64]) -> bool
+    requires { ⌜ Arrives (now ticks) (now globals) (now list) (now middle) ⌝ }
+    ensures { λ r. ⌜ ((t : Notes (now (ticks .entry)) (now (globals .entry))) (l : List Occurrence) (x : Occurrence)
+        → Waits t (now (list .entry)) l → Stands t (now (middle .entry)) x
+        → r ≡ somePasses (λ w. isBefore (t .clocks) w x) (marked l (marksOf marks))) ⌝ }
+{
+    let first = occurrences::lowest(middle, globals);
+    let waiting = waiting_lists::list_of(list);
+    let n = waiting.len;
+    let mut rest = marks;
+    let mut i = waiting_lists::first_marked(rest);
+    while i < n {
+        let place = waiting_lists::place_at(waiting, i);
+        let low = occurrences::lowest(&list[place], globals);
+        let word = occurrences::order(low, &list[place], first, middle, ticks, globals);
+        if word.is(Order::Before) {
+            return true;
+        }
+        // Without its lowest mark.
+        rest = rest & (rest - 1);
+        i = waiting_lists::first_marked(rest);
+    }
+    false
+}
+
+// Whether a middle, where it is before the arrival, is after one of the lefts marked.
+fn is_between(
+    is: bool,
+    lefts: &[Packed],
+    marks: u64,
+    middle: &Packed,
+    ticks: &[u64],
+    globals: &[u64],
+) -> bool
+    requires { ⌜ Arrives (now ticks) (now globals) (now lefts) (now middle) ⌝ }
+    ensures { λ r. ⌜ ((t : Notes (now (ticks .entry)) (now (globals .entry))) (l : List Occurrence) (x : Occurrence)
+        → Waits t (now (lefts .entry)) l → Stands t (now (middle .entry)) x
+        → r ≡ (is && somePasses (λ w. isBefore (t .clocks) w x) (marked l (marksOf marks)))) ⌝ }
+{
+    if !is {
+        false
+    } else {
+        some_before(lefts, marks, middle, ticks, globals)
+    }
+}
+
+// Of the middles before the arrival, those after one of the lefts marked.
+fn between(
+    lefts: &[Packed],
+    marks: u64,
+    middles: &[Packed],
+    earlier: u64,
+    ticks: &[u64],
+    globals: &[u64],
+) -> u64
+    requires { ⌜ KnownBoth (now ticks) (now globals) (now lefts) (now middles) ⌝ }
+    ensures { λ r. ⌜ ((t : Notes (now (ticks .entry)) (now (globals .entry))) (k l : List Occurrence)
+        → Waits t (now (lefts .entry)) k → Waits t (now (middles .entry)) l
+        → marksOf r ≡ afterMarks (t .clocks) (marked k (marksOf marks)) l (marksOf earlier)) ⌝ }
+{
+    let waiting = waiting_lists::list_of(middles);
+    let n = waiting.len;
+    let mut found: u64 = 0;
+    let mut i: usize = 0;
+    while i < n {
+        let place = waiting_lists::place_at(waiting, i);
+        let is = waiting_lists::is_marked(earlier, i);
+        let mark = is_between(is, lefts, marks, &middles[place], ticks, globals);
+        found = waiting_lists::with_mark(found, i, mark);
+        i = i + 1;
+    }
+    found
+}
+
+// The finding of the lefts marked: these, the arrival, and the middles between; beside them the marks of the middles before the arrival.
+pub fn accumulated(
+    lefts: &[Packed],
+    marks: u64,
+    middles: &[Packed],
+    earlier: u64,
+    o: &Packed,
+    ticks: &[u64],
+    globals: &[u64],
+) -> Packed
+    requires { ⌜ Beside (now ticks) (now globals) (now lefts) (now middles) (now o) ⌝ }
+    ensures stands { λ r. ⌜ ((t : Notes (now (ticks .entry)) (now (globals .entry))) (k l : List Occurrence) (x : Occurrence)
+        → Waits t (now (lefts .entry)) k → Waits t (now (middles .entry)) l → Stands t (now (o .entry)) x
+        → marksOf earlier ≡ seqCandidates (t .clocks) l x → Some (marked k (marksOf marks))
+        → Stands t r (accumulationOf (t .clocks) (marked k (marksOf marks)) l x)) ⌝ }
+    ensures within { λ r. ⌜ Within (now (ticks .entry)) (now (globals .entry)) r ⌝ }
+{
+    let found = between(lefts, marks, middles, earlier, ticks, globals);
+    let all = all_combined(lefts, marks, o, ticks, globals);
+    all_combined(middles, found, &all, ticks, globals)
 }

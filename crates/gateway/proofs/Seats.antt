@@ -12,10 +12,10 @@ use Rattle.slots.specs.Steps.{AllSeated}
 use Rattle.detector.specs.Steps.{Clear, Ready}
 
 -- where the nodes' lists end, and what they make, as the code reads it
-module _ (n : ℕ) (nodes : List Node) (places takers seats : List ℕ) (a : AllSeated n nodes places takers seats) (l m : ℕ) (ls : l ≡ getD seats (8 * n + 4) 0) (ms : m ≡ getD seats (8 * n + 1) 0)
+module _ (n : ℕ) (nodes : List Node) (places takers seats : List ℕ) (a : AllSeated n nodes places takers seats) (l m : ℕ) (ls : l ≡ getD seats (11 * n + 4) 0) (ms : m ≡ getD seats (11 * n + 1) 0)
     (count : ℕ) (kinds : List ℕ) (e : Enough count kinds places) where
   lists-end : listStart seats (length nodes) 0 ≡ l
-  lists-end = let i : 8 * length nodes + 3 * 0 + 4 ≡ 8 * n + 4 = omega (arith, a .count) in ap (λ j. getD seats j 0) i ∙ sym ls
+  lists-end = let i : 11 * length nodes + 3 * 0 + 4 ≡ 11 * n + 4 = omega (arith, a .count) in ap (λ j. getD seats j 0) i ∙ sym ls
 
   made-end : madeStart seats (length nodes) ≡ m
   made-end = ap (madeStart seats) (a .count) ∙ sym ms

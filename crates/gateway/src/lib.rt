@@ -289,7 +289,7 @@ fn run_in_rows(
         (now (ticks .entry)) (now (globals .entry)) (now (output .entry)) r (now (output .exit)) ⌝ }
 {
     let places = places_for(kind_places, count);
-    let mut seats = [0u16; 136];
+    let mut seats = [0u16; 187];
     let mut takers = [0u16; 50];
     slots::seat_nodes(nodes, n, &places, &mut seats, &mut takers);
     slots::seat_made(nodes, n, &takers, &mut seats);
@@ -442,7 +442,7 @@ pub fn work(plan: &[u8], passage: &[u8], output: &mut [u8]) -> Answer
 {
     let mut loggers = [0u16; 8];
     let mut kinds = [0u16; 32];
-    let mut nodes = [[0u16; 4]; 16];
+    let mut nodes = [[0u16; 5]; 16];
     let read = plans::read_plan(plan, &mut loggers, &mut kinds, &mut nodes);
     work_in_tables(read, &loggers, &kinds, &nodes, passage, output)
 }

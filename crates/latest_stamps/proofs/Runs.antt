@@ -54,7 +54,7 @@ module _ (P : Occurrence → Type 0) (s : Setting) (nodes : List Node)
   Fine i p = Kept P (s .loggers) (length nodes) i p
 
   abbrev BothOk : NodeLists → Type 0
-  BothOk w = All P (w .left) × All P (w .right)
+  BothOk w = All P (w .left) × All P (w .middle)
 
   arrivals-keep : (kind : ℕ) (own : Occurrence) (made : List (List Occurrence)) (input : ℕ) → P own → ((l : List Occurrence) → l isIn made → All P l)
       → All P (arrivalsOf kind own made input)
@@ -68,7 +68,7 @@ module _ (P : Occurrence → Type 0) (s : Setting) (nodes : List Node)
   turned-keeps : (i k : ℕ) (p : Progress) (t : Turned) → Fine i p → p .event ≡ i → TurnOk P s (length nodes) two more t → Fine i (turned k p t)
   unfolding turned
   turned-keeps i k p t q e w = record {
-    waiting = λ x m. ⊎-elim (λ e. subst BothOk (sym e) (w .left, w .right)) (q .waiting x) (set-in (p .waiting) k _ m);
+    waiting = λ x m. ⊎-elim (λ e. subst BothOk (sym e) (w .left, w .middle)) (q .waiting x) (set-in (p .waiting) k _ m);
     made = λ l m. ⊎-elim (q .made l) (λ i. subst (All P) (sym (List·Memᴰ·eq-of-singleton i)) (w .emit .made)) (List·Memᴰ·append-cases (p .made) m);
     written = w .emit .written;
     event = inr e;

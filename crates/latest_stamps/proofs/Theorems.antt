@@ -71,7 +71,7 @@ module _ (P Q : Occurrence → Type 0) (gives : (o : Occurrence) → P o → Q o
   kept-gives loggers n i p k =
       let w = k .written in
       record {
-        waiting = λ w m. (all-gives (w .left) (k .waiting w m .0), all-gives (w .right) (k .waiting w m .1));
+        waiting = λ w m. (all-gives (w .left) (k .waiting w m .0), all-gives (w .middle) (k .waiting w m .1));
         made = λ l m. all-gives l (k .made l m);
         written = record { findings = w .findings; many = w .many; laid = w .laid; each = λ f m. shown-gives loggers n f (w .each f m) };
         event = k .event;

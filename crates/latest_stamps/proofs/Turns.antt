@@ -9,23 +9,23 @@ use lib.ListN.{getD, length, length-append}
 use lib.Dec.{eqb, leb, ltb}
 use Rattle.sequences.specs.Choice.{pick}
 use Rattle.sequences.specs.Loops.{fold, loop}
-use Rattle.sequences.specs.Marks.{unmarked}
+use Rattle.sequences.specs.Marks.{marked, unmarked}
 use Rattle.sequences.specs.Members.{_isIn_}
 use Rattle.sequences.proofs.Marks.{marked-order, unmarked-order, order-in}
 use Rattle.sequences.proofs.Members.{map-of}
+use Rattle.sequences.proofs.Select.{filter-of}
 use Rattle.occurrences.specs.declared.Occurrence.{Occurrence}
 use Rattle.occurrences.specs.Combination.{combinationOf, combinedOf}
 use Rattle.detections.specs.Views.{findingOf}
 use Rattle.detections.proofs.Sizes.{findings-more}
 use Rattle.waiting_lists.specs.Waiting.{appendedTo, isFull}
-use Rattle.contexts.specs.Choice.{chosen}
-use Rattle.contexts.specs.Made.{madeOf}
-use Rattle.contexts.specs.Table.{Context, Findings, each, together}
+use Rattle.contexts.specs.Made.{accumulatedOf, accumulationOf, groupsOf, isBetween, madeOf}
+use Rattle.contexts.specs.Table.{Findings, each, together}
 use Rattle.plans.specs.declared.Node.{Node}
 use Rattle.emissions.specs.declared.Limit.{Limit}
 use Rattle.emissions.specs.declared.Limit.the-variants.{ListFull, NodeFull, OutputFull}
 use Rattle.emissions.specs.Emissions.{Emitting, bytesOf, emitted, emittedAll, ended, reached}
-use Rattle.arrivals.specs.Meetings.{Action, Arrival, Meeting, Setting, Sides, appended, carriedOut, findingsOf, madeBy, meetingOf, pass, wait, meet, meetAndWait, nothing}
+use Rattle.arrivals.specs.Meetings.{Action, pass, wait, meet, meetAndWait, delete, accumulate, absent, nothing, Arrival, Meeting, Setting, Sides, appended, carriedOut, madeBy, meetingOf}
 use Rattle.operators.specs.Turns.{Turned, arrives, begun, inOrder, inputTurn, meetingAt, nodeTurn, sidesOf, turnedOf}
 use Rattle.latest_stamps.specs.Written.{All, Written}
 
@@ -78,7 +78,7 @@ module _ (P : Occurrence → Type 0) (s : Setting) (n : ℕ)
 
   pub record TurnOk (t : Turned) : Type 0 where
     pub left : All P (t .left)
-    pub right : All P (t .right)
+    pub middle : All P (t .middle)
     pub emit : Emits (t .emit)
 
   ended-keeps : (e : Emitting) (l : Limit) → Emits e → Emits (ended e l)
@@ -120,20 +120,35 @@ module _ (P : Occurrence → Type 0) (s : Setting) (n : ℕ)
     made-keeps together [] o h k = all-none P
     made-keeps together (w ∷ those) o h k = all-one P _ (more o (w ∷ those) (all-cons P o (w ∷ those) k h))
 
-    -- what a meeting makes: a line for each action
-    findings-keep : (row : Context) (other : List Occurrence) (candidates : List Bool) (o : Occurrence) → All P other → P o
-        → All P (findingsOf row (s .clocks) other candidates o)
-    unfolding findingsOf
-    findings-keep row other candidates o h k = made-keeps (row .finds) _ o (λ x m. h x (order-in (marked-order other (chosen row (s .clocks) other candidates .taken)) m)) k
+    -- what is accumulated: the arrival, the lefts of a finding and the middles between
+    accumulation-keeps : (lefts middles : List Occurrence) (o : Occurrence) → All P lefts → All P middles → P o → P (accumulationOf (s .clocks) lefts middles o)
+    unfolding accumulationOf
+    accumulation-keeps lefts middles o h g k =
+        more o _ (all-cons P o _ k (all-append P lefts _ h (λ x m. g x (filter-of (isBetween (s .clocks) lefts o) middles m .0))))
 
-    meeting-makes : (action : Action) (row : Context) (other : List Occurrence) (candidates : List Bool) (o : Occurrence) → All P other → P o
-        → All P (madeBy action row (s .clocks) other candidates o)
+    groups-keep : (x : Findings) (those : List Occurrence) → All P those → (lefts : List Occurrence) → lefts isIn groupsOf x those → All P lefts
+    unfolding groupsOf
+    groups-keep each those h lefts m = let (w, i, e) = map-of (λ w. w ∷ []) those m in subst (All P) (sym e) (all-one P w (h w i))
+    groups-keep together [] h lefts m = absurd (List·Memᴰ·not-nil m)
+    groups-keep together (w ∷ those) h lefts m = subst (All P) (sym (List·Memᴰ·eq-of-singleton m)) h
+
+    accumulated-keeps : (x : Findings) (those middles : List Occurrence) (o : Occurrence) → All P those → All P middles → P o → All P (accumulatedOf x (s .clocks) those middles o)
+    unfolding accumulatedOf
+    accumulated-keeps x those middles o h g k = λ p m.
+        let (lefts, i, e) = map-of (λ lefts. accumulationOf (s .clocks) lefts middles o) (groupsOf x those) m in
+        subst P (sym e) (accumulation-keeps lefts middles o (groups-keep x those h lefts i) g k)
+
+    -- what a meeting makes: a line for each action
+    meeting-makes : (action : Action) (x : Findings) (own those : List Occurrence) (o : Occurrence) → All P own → All P those → P o → All P (madeBy action x (s .clocks) own those o)
     unfolding madeBy
-    meeting-makes pass row other candidates o h k = all-one P o k
-    meeting-makes wait row other candidates o h k = all-none P
-    meeting-makes meet row other candidates o h k = findings-keep row other candidates o h k
-    meeting-makes meetAndWait row other candidates o h k = findings-keep row other candidates o h k
-    meeting-makes nothing row other candidates o h k = all-none P
+    meeting-makes pass x own those o g h k = all-one P o k
+    meeting-makes wait x own those o g h k = all-none P
+    meeting-makes meet x own those o g h k = made-keeps x those o h k
+    meeting-makes meetAndWait x own those o g h k = made-keeps x those o h k
+    meeting-makes delete x own those o g h k = all-none P
+    meeting-makes accumulate x own those o g h k = accumulated-keeps x those own o h g k
+    meeting-makes absent x own those o g h k = made-keeps x those o h k
+    meeting-makes nothing x own those o g h k = all-none P
 
     -- its working
     appended-keeps : (own other : List Occurrence) (e : Emitting) (o : Occurrence) → All P own → All P other → P o → Emits e → SidesOk (appended own other e o)
@@ -149,27 +164,29 @@ module _ (P : Occurrence → Type 0) (s : Setting) (n : ℕ)
     unfolding carriedOut
     carried-keeps e m h g k o q =
         let w = emittedAll-keeps e (m .made) k q in
-        let rest : All P (unmarked (m .other) (m .removed)) = λ x i. g x (order-in (unmarked-order (m .other) (m .removed)) i) in
+        let own : All P (unmarked (m .own) (m .cleared)) = λ x i. h x (order-in (unmarked-order (m .own) (m .cleared)) i) in
+        let other : All P (unmarked (m .other) (m .removed)) = λ x i. g x (order-in (unmarked-order (m .other) (m .removed)) i) in
         pick-all SidesOk (reached (emittedAll (s .room) (s .loggers) place e (m .made) .limit)) _ _ (record { own = h; other = g; emit = w })
-        (pick-all SidesOk (m .waits) _ _ (appended-keeps (m .own) _ _ (m .arrival .occurrence) h rest o w) (record { own = h; other = rest; emit = w }))
+        (pick-all SidesOk (m .waits) _ _ (appended-keeps (unmarked (m .own) (m .cleared)) _ _ (m .arrival .occurrence) own other o w) (record { own = own; other = other; emit = w }))
 
     -- an arrival
     sides-keep : (input : ℕ) (t : Turned) → TurnOk t → SidesOk (sidesOf input t)
     unfolding sidesOf
     sides-keep input t q =
-        pick-all SidesOk (eqb input 0) _ _ (record { own = q .left; other = q .right; emit = q .emit }) (record { own = q .right; other = q .left; emit = q .emit })
+        pick-all SidesOk (eqb input 0) _ _ (record { own = q .left; other = q .middle; emit = q .emit }) (record { own = q .middle; other = q .left; emit = q .emit })
 
     turned-back : (input : ℕ) (x : Sides) → SidesOk x → TurnOk (turnedOf input x)
     unfolding turnedOf
     turned-back input x q =
-        pick-all TurnOk (eqb input 0) _ _ (record { left = q .own; right = q .other; emit = q .emit }) (record { left = q .other; right = q .own; emit = q .emit })
+        pick-all TurnOk (eqb input 0) _ _ (record { left = q .own; middle = q .other; emit = q .emit }) (record { left = q .other; middle = q .own; emit = q .emit })
 
     arrives-keeps : (t : Turned) (a : Arrival) → TurnOk t → P (a .occurrence) → TurnOk (arrives s node place t a)
     unfolding arrives meetingAt meetingOf
     arrives-keeps t a q k =
         let x = sides-keep (a .input) t q in
+        let those : All P (marked (sidesOf (a .input) t .other) (meetingAt s node t a .taken)) = λ y m. x .other y (order-in (marked-order (sidesOf (a .input) t .other) (meetingAt s node t a .taken)) m) in
         pick-all TurnOk (reached (t .emit .limit)) _ _ q
-        (turned-back (a .input) _ (carried-keeps (t .emit) (meetingAt s node t a) (x .own) (x .other) (meeting-makes _ _ _ _ (a .occurrence) (x .other) k) k (q .emit)))
+        (turned-back (a .input) _ (carried-keeps (t .emit) (meetingAt s node t a) (x .own) (x .other) (meeting-makes _ _ _ _ (a .occurrence) (x .own) those k) k (q .emit)))
 
     -- the turn
     in-order-all : (event input i : ℕ) (l : List Occurrence) → All P l → (a : Arrival) → a isIn inOrder event input i l → P (a .occurrence)
@@ -183,10 +200,10 @@ module _ (P : Occurrence → Type 0) (s : Setting) (n : ℕ)
     unfolding inputTurn
     input-keeps event input l t h q = fold-all TurnOk (arrives s node place) _ t q (λ u a m z. arrives-keeps u a z (in-order-all event input 0 l h a m))
 
-    pub turn-keeps : (event : ℕ) (inputs : List (List Occurrence)) (left right : List Occurrence) (findings : ℕ) (bytes : List ℕ)
-        → ((l : List Occurrence) → l isIn inputs → All P l) → All P left → All P right → Written P (s .loggers) n findings bytes
-        → TurnOk (nodeTurn s node place event inputs (begun left right findings bytes))
+    pub turn-keeps : (event : ℕ) (inputs : List (List Occurrence)) (left middle : List Occurrence) (findings : ℕ) (bytes : List ℕ)
+        → ((l : List Occurrence) → l isIn inputs → All P l) → All P left → All P middle → Written P (s .loggers) n findings bytes
+        → TurnOk (nodeTurn s node place event inputs (begun left middle findings bytes))
     unfolding nodeTurn
-    turn-keeps event inputs left right findings bytes h l r w =
-        loop-all TurnOk _ (length inputs) 0 _ (record { left = l; right = r; emit = record { made = all-none P; written = w } })
+    turn-keeps event inputs left middle findings bytes h l r w =
+        loop-all TurnOk _ (length inputs) 0 _ (record { left = l; middle = r; emit = record { made = all-none P; written = w } })
         (λ i t j q. input-keeps event i (getD inputs i []) t (getD-all (All P) inputs i [] h (all-none P)) q)

@@ -33,7 +33,7 @@ pub record Written (P : Occurrence → Type 0) (loggers : List ℕ) (n count : �
 
 -- after i events, or where one of the three limits ended the work
 pub record Kept (P : Occurrence → Type 0) (loggers : List ℕ) (n i : ℕ) (p : Progress) : Type 0 where
-  pub waiting : (w : NodeLists) → w isIn (p .waiting) → All P (w .left) × All P (w .right)
+  pub waiting : (w : NodeLists) → w isIn (p .waiting) → All P (w .left) × All P (w .middle)
   pub made : (l : List Occurrence) → l isIn (p .made) → All P l
   pub written : Written P loggers n (p .findings) (p .bytes)
   pub event : (reached (p .limit) ≡ true) ⊎ (p .event ≡ i)

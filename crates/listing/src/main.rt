@@ -239,7 +239,7 @@ fn read_argument(i: usize, buf: &mut [u8]) -> FileRead
     file
 }
 
-// Both files are read before anything is printed. A plan within the limits has at most 188 bytes and a passage at most 1,538, and
+// Both files are read before anything is printed. A plan within the limits has at most 220 bytes and a passage at most 1,538, and
 // the checks end at the first byte too many: what a longer file has after the bytes read here changes no answer.
 fn main() {
     if os::arg_count() != 3 {

@@ -6,7 +6,7 @@ use Rattle.event_sets.specs.Sets.{markedWith, noEvents}
 use Rattle.timestamps.specs.declared.Order.{Order}
 use Rattle.timestamps.specs.declared.Order.the-variants.{Before}
 use Rattle.timestamps.specs.declared.Timestamp.{Timestamp}
-use Rattle.timestamps.specs.Comparison.{orderOf, sameOrder}
+use Rattle.timestamps.specs.Comparison.{orderOf, sameOrder, weaklyBefore}
 use Rattle.timestamps.specs.Composite.{compositeOf, members}
 use Rattle.timestamps.specs.Order.{Clocks}
 use Rattle.occurrences.specs.declared.Occurrence.{Occurrence}
@@ -22,6 +22,10 @@ occurrenceOrder clocks a b = orderOf clocks (members (a .latest)) (members (b .l
 -- a's stamp is before b's
 unfoldable pub isBefore : Clocks → Occurrence → Occurrence → Bool
 isBefore clocks a b = sameOrder (occurrenceOrder clocks a b) Before
+
+-- a's stamp is weakly before b's
+unfoldable pub isWeaklyBefore : Clocks → Occurrence → Occurrence → Bool
+isWeaklyBefore clocks a b = weaklyBefore clocks (members (a .latest)) (members (b .latest))
 
 -- what a list of occurrences is read as past its end
 abbrev pub noOccurrence : Occurrence

@@ -11,7 +11,7 @@ ghost use Prim.Native.Nat.{ℕ, _<_, _+_, _%_, _^_};
 ghost use lib.ListN.{getD, length};
 ghost use Rattle.occurrences.specs.declared.Occurrence.{Occurrence};
 ghost use Rattle.occurrences.specs.Combination.{combinedOf};
-ghost use Rattle.occurrences.specs.Occurrences.{occurrenceOrder, ofEvent};
+ghost use Rattle.occurrences.specs.Occurrences.{isWeaklyBefore, occurrenceOrder, ofEvent};
 ghost use Rattle.occurrences.specs.Packed.{Notes, Stands, Within, byteAt, wordsOf};
 ghost use Rattle.occurrences.specs.Steps.{Bytes, Highest, Inside, Lowest, LowestOf, hasBefore, isReached, keptOf, laterAt, laterOf, noteAt, ownBefore};
 ghost use Rattle.timestamps.specs.Comparison.{allBefore, weaklyBefore};
@@ -284,7 +284,13 @@ fn before(low: GlobalTick, a: &Packed, b: &Packed, ticks: &[u64], globals: &[u64
 }
 
 // Whether the first one's composite timestamp is weakly before the second's, place by place of the first; with the lowest global tick of the second.
-fn weakly_before(a: &Packed, first: GlobalTick, b: &Packed, ticks: &[u64], globals: &[u64]) -> bool
+fn weakly_by_place(
+    a: &Packed,
+    first: GlobalTick,
+    b: &Packed,
+    ticks: &[u64],
+    globals: &[u64],
+) -> bool
     requires { ⌜ Within (now ticks) (now globals) (now a) × Within (now ticks) (now globals) (now b) ⌝ }
     ensures { λ r. ⌜ ((t : Notes (now (ticks .entry)) (now (globals .entry))) (x y : Occurrence)
         → LowestOf (now (globals .entry)) (now (b .entry)) (first .0) → Stands t (now (a .entry)) x → Stands t (now (b .entry)) y
@@ -321,10 +327,10 @@ fn order_by_place(
     if before(first, b, a, ticks, globals) {
         return Order::After;
     }
-    if !weakly_before(a, first, b, ticks, globals) {
+    if !weakly_by_place(a, first, b, ticks, globals) {
         return Order::Incomparable;
     }
-    if !weakly_before(b, low, a, ticks, globals) {
+    if !weakly_by_place(b, low, a, ticks, globals) {
         return Order::Incomparable;
     }
     Order::Concurrent
@@ -352,4 +358,28 @@ pub fn order(
         return Order::After;
     }
     order_by_place(low, a, first, b, ticks, globals)
+}
+
+// Whether the first one's composite timestamp is weakly before the second's, likewise.
+pub fn weakly_before(
+    own: GlobalTick,
+    a: &Packed,
+    other: GlobalTick,
+    b: &Packed,
+    ticks: &[u64],
+    globals: &[u64],
+) -> bool
+    requires { ⌜ Within (now ticks) (now globals) (now a) × Within (now ticks) (now globals) (now b) ⌝ }
+    ensures { λ r. ⌜ ((t : Notes (now (ticks .entry)) (now (globals .entry))) (x y : Occurrence)
+        → LowestOf (now (globals .entry)) (now (a .entry)) (own .0) → LowestOf (now (globals .entry)) (now (b .entry)) (other .0)
+        → Stands t (now (a .entry)) x → Stands t (now (b .entry)) y
+        → r ≡ isWeaklyBefore (t .clocks) x y) ⌝ }
+{
+    if own.clearly_earlier(other) {
+        return true;
+    }
+    if other.clearly_earlier(own) {
+        return false;
+    }
+    weakly_by_place(a, other, b, ticks, globals)
 }

@@ -23,8 +23,8 @@ use Rattle.operators.specs.declared.Part.{Part}
 use Rattle.operators.specs.Views.{Half, HoldsTurned, NodeWaits, ownPart}
 
 -- the list on the other side
-abbrev pub otherPart : {A : Type 0} → (input middle : ℕ) → List A → List A
-otherPart input middle lists = pick (not (eqb input 0)) (take middle lists) (drop middle lists)
+abbrev pub otherPart : {A : Type 0} → (input split : ℕ) → List A → List A
+otherPart input split lists = pick (not (eqb input 0)) (take split lists) (drop split lists)
 
 -- ---- a half, as a part that is lent
 half-by : (b : Bool) (m : ℕ) (l : List (List ℕ)) (from to : ℕ) → m ≤ length l → from ≡ pick b 0 m → to ≡ pick b m (length l) → take (to - from) (drop from l) ≡ pick b (take m l) (drop m l)
@@ -48,94 +48,94 @@ module _ {A : Type 0} (m : ℕ) (l w : List A) (inside : m ≤ length l) where
       let z : m - 0 ≡ m = omega arith in
       (take-at w (drop (m - 0) (drop 0 l)) m many, drop-at w (drop (m - 0) (drop 0 l)) m many ∙ ap (λ n. drop n l) z)
 
-  right-back : (e : ℕ) → e ≡ length l → length w ≡ e - m → (take m (back m e l w) ≡ take m l) × (drop m (back m e l w) ≡ w)
-  right-back e end many =
+  middle-back : (e : ℕ) → e ≡ length l → length w ≡ e - m → (take m (back m e l w) ≡ take m l) × (drop m (back m e l w) ≡ w)
+  middle-back e end many =
       let none : drop (e - m) (drop m l) ≡ [] = drop-all (e - m) (drop m l) (omega (arith, length-drop m l, end)) in
       (take-at (take m l) (w ++ drop (e - m) (drop m l)) m (length-take-le m l inside), drop-at (take m l) (w ++ drop (e - m) (drop m l)) m (length-take-le m l inside) ∙ ap (λ k. w ++ k) none ∙ append-nil w)
 
 -- the lists on both sides
-pub record Held {ticks globals : List ℕ} (t : Notes ticks globals) (input middle : ℕ) (lists : List (List ℕ)) (own other : List Occurrence) : Type 0 where
-  pub inside : middle ≤ length lists
-  pub own-waits : Waits t (ownPart input middle lists) own
-  pub other-waits : Waits t (otherPart input middle lists) other
+pub record Held {ticks globals : List ℕ} (t : Notes ticks globals) (input split : ℕ) (lists : List (List ℕ)) (own other : List Occurrence) : Type 0 where
+  pub inside : split ≤ length lists
+  pub own-waits : Waits t (ownPart input split lists) own
+  pub other-waits : Waits t (otherPart input split lists) other
 
-module _ {ticks globals : List ℕ} (t : Notes ticks globals) (input middle : ℕ) where
+module _ {ticks globals : List ℕ} (t : Notes ticks globals) (input split : ℕ) where
   -- from the node's two lists, and back to them
-  held-by : (b : Bool) → eqb input 0 ≡ b → (lists : List (List ℕ)) (x : Turned) → NodeWaits t middle lists (x .left) (x .right)
-      → Held t input middle lists (sidesOf input x .own) (sidesOf input x .other)
+  held-by : (b : Bool) → eqb input 0 ≡ b → (lists : List (List ℕ)) (x : Turned) → NodeWaits t split lists (x .left) (x .middle)
+      → Held t input split lists (sidesOf input x .own) (sidesOf input x .other)
   unfolding sidesOf
-  held-by true e lists x w = record { inside = w .inside; own-waits = rw e (w .left-waits); other-waits = rw e (w .right-waits) }
-  held-by false e lists x w = record { inside = w .inside; own-waits = rw e (w .right-waits); other-waits = rw e (w .left-waits) }
+  held-by true e lists x w = record { inside = w .inside; own-waits = rw e (w .left-waits); other-waits = rw e (w .middle-waits) }
+  held-by false e lists x w = record { inside = w .inside; own-waits = rw e (w .middle-waits); other-waits = rw e (w .left-waits) }
 
-  pub held-of : {met : Limit} {lists : List (List ℕ)} {tally : List ℕ} {made : List (List ℕ)} {out : List ℕ} (x : Turned) → HoldsTurned t met middle lists tally made out x
-      → Held t input middle lists (sidesOf input x .own) (sidesOf input x .other)
+  pub held-of : {met : Limit} {lists : List (List ℕ)} {tally : List ℕ} {made : List (List ℕ)} {out : List ℕ} (x : Turned) → HoldsTurned t met split lists tally made out x
+      → Held t input split lists (sidesOf input x .own) (sidesOf input x .other)
   held-of {lists = lists} x h = held-by (eqb input 0) refl lists x (h .waits)
 
   turned-by : (b : Bool) → eqb input 0 ≡ b → {met : Limit} {lists : List (List ℕ)} {tally : List ℕ} {made : List (List ℕ)} {out : List ℕ} (own other : List Occurrence) (e : Emitting)
-      → Held t input middle lists own other → Emits t met tally made out e → HoldsTurned t met middle lists tally made out (turnedOf input (sides own other e))
+      → Held t input split lists own other → Emits t met tally made out e → HoldsTurned t met split lists tally made out (turnedOf input (sides own other e))
   unfolding turnedOf
-  turned-by true q own other e h m = rw q (record { waits = record { inside = h .inside; left-waits = rw q at (h .own-waits); right-waits = rw q at (h .other-waits) }; emit = m })
-  turned-by false q own other e h m = rw q (record { waits = record { inside = h .inside; left-waits = rw q at (h .other-waits); right-waits = rw q at (h .own-waits) }; emit = m })
+  turned-by true q own other e h m = rw q (record { waits = record { inside = h .inside; left-waits = rw q at (h .own-waits); middle-waits = rw q at (h .other-waits) }; emit = m })
+  turned-by false q own other e h m = rw q (record { waits = record { inside = h .inside; left-waits = rw q at (h .other-waits); middle-waits = rw q at (h .own-waits) }; emit = m })
 
   pub turned-of : {met : Limit} {lists : List (List ℕ)} {tally : List ℕ} {made : List (List ℕ)} {out : List ℕ} (own other : List Occurrence) (e : Emitting)
-      → Held t input middle lists own other → Emits t met tally made out e → HoldsTurned t met middle lists tally made out (turnedOf input (sides own other e))
+      → Held t input split lists own other → Emits t met tally made out e → HoldsTurned t met split lists tally made out (turnedOf input (sides own other e))
   turned-of own other e h m = turned-by (eqb input 0) refl own other e h m
 
   -- one side comes back
-  module _ (lists w : List (List ℕ)) (own other : List Occurrence) (h : Held t input middle lists own other) (from to : ℕ) (many : length w ≡ to - from) where
+  module _ (lists w : List (List ℕ)) (own other : List Occurrence) (h : Held t input split lists own other) (from to : ℕ) (many : length w ≡ to - from) where
     abbrev then : List (List ℕ)
     then = back from to lists w
 
     -- its own side, by whether that is the left
-    own-by : (b : Bool) → eqb input 0 ≡ b → from ≡ pick b 0 middle → to ≡ pick b middle (length lists) → (own′ : List Occurrence) → Waits t w own′ → Held t input middle then own′ other
+    own-by : (b : Bool) → eqb input 0 ≡ b → from ≡ pick b 0 split → to ≡ pick b split (length lists) → (own′ : List Occurrence) → Waits t w own′ → Held t input split then own′ other
     own-by true e f g own′ k =
-        let halves = left-back middle lists w (h .inside) (omega (arith, many, f, g)) in
+        let halves = left-back split lists w (h .inside) (omega (arith, many, f, g)) in
         rw (f, g) (record {
-          inside = omega (arith, length-back 0 middle lists w (omega arith) (h .inside) (omega (arith, many, f, g)), h .inside);
+          inside = omega (arith, length-back 0 split lists w (omega arith) (h .inside) (omega (arith, many, f, g)), h .inside);
           own-waits = rw (e, halves .0) k;
           other-waits = rw (e, halves .1) (rw e at (h .other-waits));
         })
     own-by false e f g own′ k =
-        let halves = right-back middle lists w (h .inside) (length lists) refl (omega (arith, many, f, g)) in
+        let halves = middle-back split lists w (h .inside) (length lists) refl (omega (arith, many, f, g)) in
         rw (f, g) (record {
-          inside = omega (arith, length-back middle (length lists) lists w (h .inside) (omega arith) (omega (arith, many, f, g)), h .inside);
+          inside = omega (arith, length-back split (length lists) lists w (h .inside) (omega arith) (omega (arith, many, f, g)), h .inside);
           own-waits = rw (e, halves .1) k;
           other-waits = rw (e, halves .0) (rw e at (h .other-waits));
         })
 
-    pub own-back : from ≡ pick (eqb input 0) 0 middle → to ≡ pick (eqb input 0) middle (length lists) → (own′ : List Occurrence) → Waits t w own′ → Held t input middle then own′ other
+    pub own-back : from ≡ pick (eqb input 0) 0 split → to ≡ pick (eqb input 0) split (length lists) → (own′ : List Occurrence) → Waits t w own′ → Held t input split then own′ other
     own-back f g own′ k = own-by (eqb input 0) refl f g own′ k
 
     -- the other; its own side is as it was
-    own-kept-by : (b : Bool) → eqb input 0 ≡ b → from ≡ pick (not b) 0 middle → to ≡ pick (not b) middle (length lists) → ownPart input middle then ≡ ownPart input middle lists
-    own-kept-by false e f g = rw (e, f, g) (left-back middle lists w (h .inside) (omega (arith, many, f, g)) .1)
-    own-kept-by true e f g = rw (e, f, g) (right-back middle lists w (h .inside) (length lists) refl (omega (arith, many, f, g)) .0)
+    own-kept-by : (b : Bool) → eqb input 0 ≡ b → from ≡ pick (not b) 0 split → to ≡ pick (not b) split (length lists) → ownPart input split then ≡ ownPart input split lists
+    own-kept-by false e f g = rw (e, f, g) (left-back split lists w (h .inside) (omega (arith, many, f, g)) .1)
+    own-kept-by true e f g = rw (e, f, g) (middle-back split lists w (h .inside) (length lists) refl (omega (arith, many, f, g)) .0)
 
-    pub own-kept : from ≡ pick (not (eqb input 0)) 0 middle → to ≡ pick (not (eqb input 0)) middle (length lists) → ownPart input middle then ≡ ownPart input middle lists
+    pub own-kept : from ≡ pick (not (eqb input 0)) 0 split → to ≡ pick (not (eqb input 0)) split (length lists) → ownPart input split then ≡ ownPart input split lists
     own-kept f g = own-kept-by (eqb input 0) refl f g
 
-    other-by : (b : Bool) → eqb input 0 ≡ b → from ≡ pick (not b) 0 middle → to ≡ pick (not b) middle (length lists) → (other′ : List Occurrence) → Waits t w other′ → Held t input middle then own other′
+    other-by : (b : Bool) → eqb input 0 ≡ b → from ≡ pick (not b) 0 split → to ≡ pick (not b) split (length lists) → (other′ : List Occurrence) → Waits t w other′ → Held t input split then own other′
     other-by false e f g other′ k =
-        let halves = left-back middle lists w (h .inside) (omega (arith, many, f, g)) in
+        let halves = left-back split lists w (h .inside) (omega (arith, many, f, g)) in
         rw (f, g) (record {
-          inside = omega (arith, length-back 0 middle lists w (omega arith) (h .inside) (omega (arith, many, f, g)), h .inside);
+          inside = omega (arith, length-back 0 split lists w (omega arith) (h .inside) (omega (arith, many, f, g)), h .inside);
           own-waits = rw (e, halves .1) (rw e at (h .own-waits));
           other-waits = rw (e, halves .0) k;
         })
     other-by true e f g other′ k =
-        let halves = right-back middle lists w (h .inside) (length lists) refl (omega (arith, many, f, g)) in
+        let halves = middle-back split lists w (h .inside) (length lists) refl (omega (arith, many, f, g)) in
         rw (f, g) (record {
-          inside = omega (arith, length-back middle (length lists) lists w (h .inside) (omega arith) (omega (arith, many, f, g)), h .inside);
+          inside = omega (arith, length-back split (length lists) lists w (h .inside) (omega arith) (omega (arith, many, f, g)), h .inside);
           own-waits = rw (e, halves .0) (rw e at (h .own-waits));
           other-waits = rw (e, halves .1) k;
         })
 
-    pub other-back : from ≡ pick (not (eqb input 0)) 0 middle → to ≡ pick (not (eqb input 0)) middle (length lists) → (other′ : List Occurrence) → Waits t w other′
-        → Held t input middle then own other′
+    pub other-back : from ≡ pick (not (eqb input 0)) 0 split → to ≡ pick (not (eqb input 0)) split (length lists) → (other′ : List Occurrence) → Waits t w other′
+        → Held t input split then own other′
     other-back f g other′ k = other-by (eqb input 0) refl f g other′ k
 
-pub holds-as : {ticks globals : List ℕ} (t : Notes ticks globals) {met : Limit} {middle : ℕ} {lists : List (List ℕ)} {tally : List ℕ} {made : List (List ℕ)} {out : List ℕ} {x : Turned}
-    → HoldsTurned t met middle lists tally made out x → (l : Limit) → met ≡ l → HoldsTurned t l middle lists tally made out x
+pub holds-as : {ticks globals : List ℕ} (t : Notes ticks globals) {met : Limit} {split : ℕ} {lists : List (List ℕ)} {tally : List ℕ} {made : List (List ℕ)} {out : List ℕ} {x : Turned}
+    → HoldsTurned t met split lists tally made out x → (l : Limit) → met ≡ l → HoldsTurned t l split lists tally made out x
 holds-as t h l e = record { waits = h .waits; emit = emits-as t (h .emit) l e }
 
 -- ---- the append: what was made stays, and 31 where the list is full

@@ -10,6 +10,8 @@ use lib.ListN.{drop, getD, length, take, length-append, length-take, take-append
 use lib.Seq.{getD-take}
 use Rattle.sequences.specs.Choice.{pick}
 use Rattle.sequences.specs.Loops.{fold, loop}
+use Rattle.sequences.specs.Marks.{unmarked}
+use Rattle.sequences.proofs.Booleans.{false-of-not-true, never-both}
 use Rattle.sequences.proofs.Loops.{fold-append, fold-next, fold-none, fold-still, fold-whole}
 use Rattle.sequences.proofs.Marks.{unmarked-length}
 use Rattle.occurrences.specs.declared.Occurrence.{Occurrence}
@@ -18,8 +20,11 @@ use Rattle.waiting_lists.specs.Waiting.{appendedTo}
 use Rattle.waiting_lists.proofs.Appends.{appended-full, appended-room}
 use Rattle.plans.specs.declared.Node.{Node}
 use Rattle.emissions.specs.Emissions.{Emitting, emittedAll, reached}
-use Rattle.arrivals.specs.Meetings.{Arrival, Meeting, Setting, Sides, appended, carriedOut, meetingOf}
+use Rattle.arrivals.specs.Meetings.{Arrival, Meeting, Setting, Sides, appended, carriedOut, mayWait, meetingOf}
+use Rattle.operators.specs.Table.{actionOf}
 use Rattle.operators.specs.Turns.{Turned, arrives, inOrder, inputTurn, meetingAt, nodeTurn, sidesOf, turnedOf}
+use Rattle.operators.proofs.Carried.{waits-may}
+use Rattle.operators.proofs.Table.{third-never}
 
 -- stands for an arrival where there is none
 abbrev pub noArrival : Arrival
@@ -84,8 +89,9 @@ module _ (s : Setting) (place : ℕ) (e : Emitting) (m : Meeting) where
   carried-own : length (carriedOut s place e m .own) ≤ length (m .own) + 1
   unfolding carriedOut appended
   carried-own =
+      let less = unmarked-length (m .own) (m .cleared) in
       pick-few (λ (x : Sides). x .own) (reached (f .limit)) _ _ (length (m .own) + 1) (omega arith)
-      (pick-few (λ (x : Sides). x .own) (m .waits) _ _ (length (m .own) + 1) (appended-few (m .own) (m .arrival .occurrence)) (omega arith))
+      (pick-few (λ (x : Sides). x .own) (m .waits) _ _ (length (m .own) + 1) (omega (arith, less, appended-few (unmarked (m .own) (m .cleared)) (m .arrival .occurrence))) (omega (arith, less)))
 
   carried-other : length (carriedOut s place e m .other) ≤ length (m .other)
   unfolding carriedOut appended
@@ -159,28 +165,72 @@ module _ (s : Setting) (node : Node) (place input : ℕ) where
   unfolding inputTurn
   input-few event l t = let few = some-few (inOrder event input 0 l) (in-order-by event l) t in (omega (arith, few .0, in-order-length event input 0 l), few .1)
 
--- ---- a node's turn: the arrivals of its first input, then those of its second
-module _ (s : Setting) (node : Node) (place event : ℕ) (first second : List Occurrence) (t : Turned) where
-  pub node-turn-is : nodeTurn s node place event (first ∷ second ∷ []) t ≡ inputTurn s node place event 1 second (inputTurn s node place event 0 first t)
+-- ---- arrivals that may not wait make their own list no longer
+carried-same : (s : Setting) (place : ℕ) (e : Emitting) (m : Meeting) → m .waits ≡ false → length (carriedOut s place e m .own) ≤ length (m .own)
+unfolding carriedOut
+carried-same s place e m w = pick-few (λ (x : Sides). x .own) (reached (f s place e m .limit)) _ _ (length (m .own)) (omega arith) (rw w (unmarked-length (m .own) (m .cleared)))
+
+module _ (s : Setting) (node : Node) (place : ℕ) (t : Turned) (a : Arrival) (never : mayWait (actionOf (node .operator) (a .input)) ≡ false) where
+  waits-not : meetingAt s node t a .waits ≡ false
+  unfolding meetingAt meetingOf
+  waits-not = false-of-not-true _ (λ w. never-both (waits-may _ _ _ _ refl w) never)
+
+  one-same : length (sidesOf (a .input) (arrives s node place t a) .own) ≤ length (sidesOf (a .input) t .own)
+  unfolding arrives
+  one-same =
+      pick-few (λ (x : Turned). sidesOf (a .input) x .own) (reached (t .emit .limit)) t (turnedOf (a .input) (then s node place t a)) (length (sidesOf (a .input) t .own)) (omega arith)
+      (omega (
+        arith,
+        ap length (sides-by (eqb (a .input) 0) (a .input) refl (then s node place t a) .0),
+        carried-same s place (t .emit) (meetingAt s node t a) waits-not,
+        ap length (meeting-sides s node place t a .0),
+      ))
+
+module _ (s : Setting) (node : Node) (place input : ℕ) (never : mayWait (actionOf (node .operator) input) ≡ false) where
+  some-same : (l : List Arrival) → ((k : ℕ) → k < length l → getD l k noArrival .input ≡ input) → (t : Turned)
+      → length (sidesOf input (fold (arrives s node place) l t) .own) ≤ length (sidesOf input t .own)
+  some-same [] by t = rw (fold-none (arrives s node place) t) (omega arith)
+  some-same (a ∷ l) by t =
+      let mine : a .input ≡ input = by 0 (omega arith) in
+      let first = subst (λ (n : ℕ). length (sidesOf n (arrives s node place t a) .own) ≤ length (sidesOf n t .own)) mine (one-same s node place t a (rw mine never)) in
+      rw (fold-next (arrives s node place) a l t) (omega (arith, first, some-same l (λ k h. by (suc k) (omega arith)) (arrives s node place t a)))
+
+  pub input-same : (event : ℕ) (l : List Occurrence) (t : Turned) → length (sidesOf input (inputTurn s node place event input l t) .own) ≤ length (sidesOf input t .own)
+  unfolding inputTurn
+  input-same event l t = some-same (inOrder event input 0 l) (in-order-by s node place input event l) t
+
+-- ---- a node's turn: the arrivals of its first input, then those of its second, then those of its third
+pub sides-0 : (x : Turned) → (sidesOf 0 x .own ≡ x .left) × (sidesOf 0 x .other ≡ x .middle)
+unfolding sidesOf
+sides-0 x = (refl, refl)
+
+pub sides-1 : (x : Turned) → (sidesOf 1 x .own ≡ x .middle) × (sidesOf 1 x .other ≡ x .left)
+unfolding sidesOf
+sides-1 x = (refl, refl)
+
+pub sides-2 : (x : Turned) → (sidesOf 2 x .own ≡ x .middle) × (sidesOf 2 x .other ≡ x .left)
+unfolding sidesOf
+sides-2 x = (refl, refl)
+
+module _ (s : Setting) (node : Node) (place event : ℕ) (first second third : List Occurrence) (t : Turned) where
+  abbrev turn : Turned
+  turn = nodeTurn s node place event (first ∷ second ∷ third ∷ []) t
+
+  pub node-turn-is : turn ≡ inputTurn s node place event 2 third (inputTurn s node place event 1 second (inputTurn s node place event 0 first t))
   unfolding nodeTurn loop
   node-turn-is = refl
 
-  pub sides-0 : (x : Turned) → (sidesOf 0 x .own ≡ x .left) × (sidesOf 0 x .other ≡ x .right)
-  unfolding sidesOf
-  sides-0 x = (refl, refl)
-
-  pub sides-1 : (x : Turned) → (sidesOf 1 x .own ≡ x .right) × (sidesOf 1 x .other ≡ x .left)
-  unfolding sidesOf
-  sides-1 x = (refl, refl)
-
-  pub node-few : (length (nodeTurn s node place event (first ∷ second ∷ []) t .left) ≤ length (t .left) + length first)
-      × (length (nodeTurn s node place event (first ∷ second ∷ []) t .right) ≤ length (t .right) + length second)
+  -- what comes by the third makes neither list longer
+  pub node-few : (length (turn .left) ≤ length (t .left) + length first) × (length (turn .middle) ≤ length (t .middle) + length second)
   node-few =
       let x = inputTurn s node place event 0 first t in
       let y = inputTurn s node place event 1 second x in
+      let z = inputTurn s node place event 2 third y in
       let one = input-few s node place 0 event first t in
       let two = input-few s node place 1 event second x in
+      let three = input-few s node place 2 event third y in
+      let same = input-same s node place 2 (third-never (node .operator)) event third y in
       rw node-turn-is (
-        omega (arith, one .0, two .1, ap length (sides-0 t .0), ap length (sides-0 x .0), ap length (sides-1 x .1), ap length (sides-1 y .1)),
-        omega (arith, one .1, two .0, ap length (sides-0 t .1), ap length (sides-0 x .1), ap length (sides-1 x .0), ap length (sides-1 y .0)),
+        omega (arith, one .0, two .1, three .1, ap length (sides-0 t .0), ap length (sides-0 x .0), ap length (sides-1 x .1), ap length (sides-1 y .1), ap length (sides-2 y .1), ap length (sides-2 z .1)),
+        omega (arith, one .1, two .0, same, ap length (sides-0 t .1), ap length (sides-0 x .1), ap length (sides-1 x .0), ap length (sides-1 y .0), ap length (sides-2 y .0), ap length (sides-2 z .0)),
       )

@@ -13,19 +13,19 @@ use Rattle.emissions.specs.Emissions.{Emitting, reached}
 use Rattle.arrivals.specs.Meetings.{Arrival, Meeting, Setting, Sides, carriedOut, meetingOf, sides}
 use Rattle.operators.specs.Table.{actionOf}
 
--- a node in its turn: what waits on its left and on its right, and what it has made
+-- a node in its turn: what waits on its left and on its middle, and what it has made
 pub record Turned : Type 0 where
   pub left : List Occurrence
-  pub right : List Occurrence
+  pub middle : List Occurrence
   pub emit : Emitting
 
--- ---- the node as an arrival by an input sees it: by the left input, 0, its own side is the left, by any other the right
+-- ---- the node as an arrival by an input sees it: by the left input, 0, its own side is the left, by any other the middle
 unfoldable pub sidesOf : ℕ → Turned → Sides
-sidesOf input t = pick (eqb input 0) (sides (t .left) (t .right) (t .emit)) (sides (t .right) (t .left) (t .emit))
+sidesOf input t = pick (eqb input 0) (sides (t .left) (t .middle) (t .emit)) (sides (t .middle) (t .left) (t .emit))
 
 unfoldable pub turnedOf : ℕ → Sides → Turned
 turnedOf input x =
-    pick (eqb input 0) (record { left = x .own; right = x .other; emit = x .emit }) (record { left = x .other; right = x .own; emit = x .emit })
+    pick (eqb input 0) (record { left = x .own; middle = x .other; emit = x .emit }) (record { left = x .other; middle = x .own; emit = x .emit })
 
 -- what an arrival meets at a node: by the operator's row and the context's
 unfoldable pub meetingAt : Setting → Node → Turned → Arrival → Meeting
@@ -47,10 +47,10 @@ inOrder event input place (o ∷ l) = record { event = event; input = input; pla
 unfoldable pub inputTurn : Setting → Node → (place event input : ℕ) → List Occurrence → Turned → Turned
 inputTurn s node place event input l t = fold (arrives s node place) (inOrder event input 0 l) t
 
--- a node first takes the arrivals of its left input, then those of its right input
+-- a node first takes the arrivals of its left input, then those of its middle input, then those of its third
 unfoldable pub nodeTurn : Setting → Node → (place event : ℕ) → List (List Occurrence) → Turned → Turned
 nodeTurn s node place event inputs t = loop (λ i. inputTurn s node place event i (getD inputs i [])) (length inputs) 0 t
 
 -- a node at the start of its turn: it has made nothing yet
-abbrev pub begun : (left right : List Occurrence) → ℕ → List ℕ → Turned
-begun left right findings bytes = record { left = left; right = right; emit = record { made = []; findings = findings; bytes = bytes; limit = None } }
+abbrev pub begun : (left middle : List Occurrence) → ℕ → List ℕ → Turned
+begun left middle findings bytes = record { left = left; middle = middle; emit = record { made = []; findings = findings; bytes = bytes; limit = None } }

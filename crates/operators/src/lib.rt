@@ -1,7 +1,11 @@
 // The table of operators, and what it makes of the arrivals of an input at a node, until a limit ends the work. The node's waiting lists, a row for what it
 // makes and a tally are lent.
+use arrivals::ABSENT;
+use arrivals::ACCUMULATE;
+use arrivals::DELETE;
 use arrivals::MEET;
 use arrivals::MEET_AND_WAIT;
+use arrivals::NOTHING;
 use arrivals::PASS;
 use arrivals::WAIT;
 use detections::LoggerNumbers;
@@ -21,28 +25,34 @@ ghost use Rattle.emissions.specs.Emissions.{InOutput, bytesIn, findingsIn};
 ghost use Rattle.arrivals.specs.Meetings.{Arrival, actionFrom, settingOf};
 ghost use Rattle.operators.specs.Table.{actionOf, operatorOf, seq, table};
 ghost use Rattle.operators.specs.Turns.{Turned, arrives, inputTurn};
-ghost use Rattle.operators.specs.Views.{AllOffered, Half, HoldsTurned, Offered, Spares, Takes};
+ghost use Rattle.operators.specs.Views.{AllOffered, Half, Halves, HoldsTurned, Offered, Spares, Takes};
 
 // ---- the table
 
-// What an arrival by each input does, left first: operators 1 to 3.
-const OPERATORS: [[u16; 2]; 3] = [
+// What an arrival by each input does, left first: operators 1 to 6.
+const OPERATORS: [[u16; 3]; 6] = [
     // OR
-    [PASS, PASS],
+    [PASS, PASS, NOTHING],
     // AND
-    [MEET_AND_WAIT, MEET_AND_WAIT],
+    [MEET_AND_WAIT, MEET_AND_WAIT, NOTHING],
     // SEQ
-    [WAIT, MEET],
+    [WAIT, MEET, NOTHING],
+    // aperiodic
+    [WAIT, MEET, DELETE],
+    // accumulated
+    [WAIT, WAIT, ACCUMULATE],
+    // absence
+    [WAIT, WAIT, ABSENT],
 ];
 
 // The place of an operator's row; any other number is read as SEQ.
 fn place_of(operator: u16) -> usize
-    ensures { λ k. ⌜ (k < 3) × (getD table k seq ≡ operatorOf operator) ⌝ }
+    ensures { λ k. ⌜ (k < 6) × (getD table k seq ≡ operatorOf operator) ⌝ }
 {
-    if operator == 1 {
-        0
-    } else if operator == 2 {
-        1
+    if operator == 0 {
+        2
+    } else if operator < 7 {
+        operator as usize - 1
     } else {
         2
     }
@@ -50,7 +60,7 @@ fn place_of(operator: u16) -> usize
 
 // What an arrival by an input does.
 pub fn action_of(operator: u16, input: usize) -> u16
-    requires { ⌜ input < 2 ⌝ }
+    requires { ⌜ input < 3 ⌝ }
     ensures { λ r. ⌜ actionFrom r ≡ actionOf operator input ⌝ }
 {
     let k = place_of(operator);
@@ -60,13 +70,13 @@ pub fn action_of(operator: u16, input: usize) -> u16
 
 // ---- arrivals
 
-// The turn of an input at a node: the node's place and context; what its arrivals do; which input it is; and where, in the node's lists, the right one begins.
+// The turn of an input at a node: the node's place and context; what its arrivals do; which input it is; and where, in the node's lists, the middle one begins.
 pub struct Turn {
     pub place: u64,
     pub context: u64,
     pub action: u16,
     pub input: usize,
-    pub middle: usize,
+    pub split: usize,
 }
 
 // A part of the node's lists.
@@ -75,22 +85,83 @@ pub struct Part {
     pub to: usize,
 }
 
-// The left list, or the right one.
-fn part_of(left: bool, middle: usize, end: usize) -> Part
-    requires { ⌜ middle ≤ end ⌝ }
-    ensures { λ r. ⌜ Half left middle end r ⌝ }
+// The left list, or the middle one.
+fn part_of(left: bool, split: usize, end: usize) -> Part
+    requires { ⌜ split ≤ end ⌝ }
+    ensures { λ r. ⌜ Half left split end r ⌝ }
 {
     if left {
-        Part {
-            from: 0,
-            to: middle,
-        }
+        Part { from: 0, to: split }
     } else {
         Part {
-            from: middle,
+            from: split,
             to: end,
         }
     }
+}
+
+// An arrival that is not passed on meets those that wait: findings first, then the removal, then the append; where a limit is met nothing is removed. Its own
+// part of the lists, and the other.
+fn meet(
+    turn: Turn,
+    own: Part,
+    other: Part,
+    lists: &mut [Packed],
+    tally: &mut Tally,
+    made: &mut Made,
+    o: &Packed,
+    ticks: &[u64],
+    globals: &[u64],
+    loggers: &LoggerNumbers,
+    out: &mut [u8],
+) -> Limit
+    requires { ⌜ Offered turn (now ticks) (now globals) (now lists) (now tally) (now made) (now out) (now o) × InOutput (now tally) (now out)
+        × Spares turn (now lists) 1 × Halves turn (length (now lists)) own other ⌝ }
+    ensures acts { λ r. ⌜ ((t : Notes (now (ticks .entry)) (now (globals .entry))) (node : Node) (x : Turned) (a : Arrival)
+        → (turn .action ≡ 0 → ⊥)
+        → Takes node turn → a .input ≡ turn .input → Stands t (now (o .entry)) (a .occurrence)
+        → HoldsTurned t Limit.None (turn .split) (now (lists .entry)) (now (tally .entry)) (now (made .entry)) (now (out .entry)) x
+        → HoldsTurned t r (turn .split) (now (lists .exit)) (now (tally .exit)) (now (made .exit)) (now (out .exit))
+        (arrives (settingOf (length (now (out .entry))) (t .clocks) (now (loggers .entry))) node (turn .place) x a)) ⌝ }
+    ensures beyond { λ _. ⌜ Beyond (now (out .entry)) (now (out .exit)) (bytesIn (now (tally .entry)))
+        (findingsIn (now (tally .exit))) (bytesIn (now (tally .exit))) ⌝ }
+{
+    let own_from = own.from;
+    let own_to = own.to;
+    let from = other.from;
+    let to = other.to;
+    let all = &lists[..];
+    let met = arrivals::meeting_of(
+        turn.action,
+        turn.context,
+        &all[own_from..own_to],
+        &all[from..to],
+        o,
+        ticks,
+        globals,
+    );
+    let end = arrivals::emit_met(
+        tally,
+        made,
+        met,
+        &all[own_from..own_to],
+        &all[from..to],
+        o,
+        turn.place,
+        ticks,
+        globals,
+        loggers,
+        out,
+    );
+    if end.is_reached() {
+        return end;
+    }
+    waiting_lists::remove_from(&mut lists[from..to], met.removed);
+    waiting_lists::remove_from(&mut lists[own_from..own_to], met.cleared);
+    if !met.waits {
+        return Limit::None;
+    }
+    arrivals::wait(&mut lists[own_from..own_to], o)
 }
 
 // One arrival, where no limit is met yet.
@@ -109,8 +180,8 @@ fn act(
         × Spares turn (now lists) 1 ⌝ }
     ensures acts { λ r. ⌜ ((t : Notes (now (ticks .entry)) (now (globals .entry))) (node : Node) (x : Turned) (a : Arrival)
         → Takes node turn → a .input ≡ turn .input → Stands t (now (o .entry)) (a .occurrence)
-        → HoldsTurned t Limit.None (turn .middle) (now (lists .entry)) (now (tally .entry)) (now (made .entry)) (now (out .entry)) x
-        → HoldsTurned t r (turn .middle) (now (lists .exit)) (now (tally .exit)) (now (made .exit)) (now (out .exit))
+        → HoldsTurned t Limit.None (turn .split) (now (lists .entry)) (now (tally .entry)) (now (made .entry)) (now (out .entry)) x
+        → HoldsTurned t r (turn .split) (now (lists .exit)) (now (tally .exit)) (now (made .exit)) (now (out .exit))
         (arrives (settingOf (length (now (out .entry))) (t .clocks) (now (loggers .entry))) node (turn .place) x a)) ⌝ }
     ensures beyond { λ _. ⌜ Beyond (now (out .entry)) (now (out .exit)) (bytesIn (now (tally .entry)))
         (findingsIn (now (tally .exit))) (bytesIn (now (tally .exit))) ⌝ }
@@ -121,36 +192,26 @@ fn act(
     }
     let end = lists.len();
     let is_left = turn.input == 0;
-    let own = part_of(is_left, turn.middle, end);
-    let own_from = own.from;
-    let own_to = own.to;
+    let own = part_of(is_left, turn.split, end);
+    let from = own.from;
+    let to = own.to;
     if action == WAIT {
-        return arrivals::wait(&mut lists[own_from..own_to], o);
+        return arrivals::wait(&mut lists[from..to], o);
     }
-    let other = part_of(!is_left, turn.middle, end);
-    let from = other.from;
-    let to = other.to;
-    let candidates = arrivals::candidates_of(action, &lists[from..to], o, ticks, globals);
-    let limit = arrivals::meet(
-        &mut lists[from..to],
-        candidates,
+    let other = part_of(!is_left, turn.split, end);
+    meet(
+        turn,
+        own,
+        other,
+        lists,
         tally,
         made,
         o,
-        turn.context,
-        turn.place,
         ticks,
         globals,
         loggers,
         out,
-    );
-    if limit.is_reached() {
-        return limit;
-    }
-    if !arrivals::waits(action, turn.context, candidates) {
-        return Limit::None;
-    }
-    arrivals::wait(&mut lists[own_from..own_to], o)
+    )
 }
 
 // The arrivals of one input, in the order made.
@@ -169,8 +230,8 @@ pub fn input_turn(
         × Spares turn (now lists) (length (now arrivals)) ⌝ }
     ensures turns { λ r. ⌜ ((t : Notes (now (ticks .entry)) (now (globals .entry))) (node : Node) (x : Turned) (l : List Occurrence) (event : ℕ)
         → Takes node turn → Stand t (now (arrivals .entry)) l
-        → HoldsTurned t Limit.None (turn .middle) (now (lists .entry)) (now (tally .entry)) (now (made .entry)) (now (out .entry)) x
-        → HoldsTurned t r (turn .middle) (now (lists .exit)) (now (tally .exit)) (now (made .exit)) (now (out .exit))
+        → HoldsTurned t Limit.None (turn .split) (now (lists .entry)) (now (tally .entry)) (now (made .entry)) (now (out .entry)) x
+        → HoldsTurned t r (turn .split) (now (lists .exit)) (now (tally .exit)) (now (made .exit)) (now (out .exit))
         (inputTurn (settingOf (length (now (out .entry))) (t .clocks) (now (loggers .entry))) node (turn .place) event (turn .input) l x)) ⌝ }
     ensures beyond { λ _. ⌜ Beyond (now (out .entry)) (now (out .exit)) (bytesIn (now (tally .entry)))
         (findingsIn (now (tally .exit))) (bytesIn (now (tally .exit))) ⌝ }

@@ -1,4 +1,4 @@
--- The first 189 bytes of a plan file decide its answer: one byte more than the longest plan has.
+-- The first 221 bytes of a plan file decide its answer: one byte more than the longest plan has.
 use mathlib.Core.Path.{_≡_, ap}
 use mathlib.Core.List.{List}
 use Prim.Native.Nat.{ℕ, _≤_, _<_}
@@ -14,12 +14,14 @@ use Rattle.plans.specs.Reader.{answered, clocks, kinds, loggers, nodes, 
 
 node-steady : Steady node
 node-steady =
-    let inputs = pair (number 2) (number 2) in
+    let two = pair (number 2) (number 2) in
+    let inputs = pair (number 2) two in
     via-steady toNode fromNode (pair (number 1) (pair (number 1) inputs))
     (pair-steady (number 1) (pair (number 1) inputs) (number-steady 1)
-    (pair-steady (number 1) inputs (number-steady 1) (pair-steady (number 2) (number 2) (number-steady 2) (number-steady 2))))
+    (pair-steady (number 1) inputs (number-steady 1)
+    (pair-steady (number 2) two (number-steady 2) (pair-steady (number 2) (number 2) (number-steady 2) (number-steady 2)))))
 
-module _ (b : List ℕ) (m : ℕ) (enough : 189 ≤ m) (within : m ≤ length b) where
+module _ (b : List ℕ) (m : ℕ) (enough : 221 ≤ m) (within : m ≤ length b) where
   at-first : planAt (take m b) ≡ planAt b
   unfolding planAt
   at-first =
@@ -34,7 +36,7 @@ module _ (b : List ℕ) (m : ℕ) (enough : 189 ≤ m) (within : m ≤ length b)
       let b₄ = section-next (nodes (length ks)) b at₃ ns at₄ (omega arith) e₄ in
       ended-first b m within _ _ at₄ (omega (arith, b₁, b₂, b₃, b₄))
 
-pub first-bytes : (b : List ℕ) (m : ℕ) → 189 ≤ m → readPlan (take m b) ≡ readPlan b
+pub first-bytes : (b : List ℕ) (m : ℕ) → 221 ≤ m → readPlan (take m b) ≡ readPlan b
 unfolding readPlan
 first-bytes b m h = elim (decLt (length b) m) [
   | yes l ↦ ap (λ x. answered (planAt x)) (take-all m b (omega arith))

@@ -1,22 +1,23 @@
 -- The limits of a plan, and that no entry of it has a fault: the same.
 use mathlib.Core.Path.{_≡_, refl, sym, _∙_}
 use mathlib.Core.List.{List, [], _∷_}
-use mathlib.Core.Bool.{true, _&&_}
+use mathlib.Core.Bool.{Bool, true, false, _&&_}
 use mathlib.Core.Logic.{inl, inr, ⊎-elim}
 use Prim.Native.Nat.{ℕ, zero, suc, _+_, _-_, _≤_, _<_}
 use native.Mathlib.Numerals.{add-one}
 use native.Mathlib.Omega.{arith}
 use lib.ListN.{length, getD, take}
 use lib.Seq.{take-suc, length-take-le}
-use lib.Dec.{leb, ltb}
-use borrow.Author.Tests.{ltb-true, leb-true, lt-ltb, le-leb}
+use lib.Dec.{leb, ltb, eqb}
+use borrow.Author.Tests.{ltb-true, leb-true, leb-false, eqb-true, lt-ltb, le-leb, lt-leb}
+use Rattle.sequences.specs.Choice.{pick}
 use Rattle.sequences.proofs.Booleans.{and-left, and-right, and-both, or-cases, or-left, or-right}
 use Rattle.forms.specs.Sections.{within}
 use Rattle.forms.proofs.Pieces.{unless-none, within-in, within-of, outside-in, outside-none}
 use Rattle.forms.proofs.Layouts.{Fine, SectionOk, fine-at, at-fine}
 use Rattle.plans.specs.Layout.{Plan, node}
-use Rattle.plans.specs.Limits.{NumbersOk, InputOk, NodeOk, noNode, PlanOk}
-use Rattle.plans.specs.Reader.{clocks, above, numbers, loggers, kinds, isInput, nodeFault, nodes}
+use Rattle.plans.specs.Limits.{NumbersOk, InputOk, ThirdOk, NodeOk, noNode, PlanOk}
+use Rattle.plans.specs.Reader.{clocks, above, numbers, loggers, kinds, isInput, isThird, nodeFault, nodes}
 use Rattle.plans.specs.declared.Node.{Node}
 use Rattle.plans.proofs.Sections.{above-snoc}
 
@@ -73,13 +74,29 @@ module _ (kinds place x : ℕ) where
   input-small c p (inr h) = omega (arith, h .1, h .2)
 
 module _ (kinds place : ℕ) (n : Node) where
+  third-ok : isThird kinds place n ≡ true → ThirdOk kinds place n
+  third-ok e = go (leb (n .operator) 3) refl e
+    where
+      go : (t : Bool) → leb (n .operator) 3 ≡ t → pick t (eqb (n .third) 65535) (isInput kinds place (n .third)) ≡ true → ThirdOk kinds place n
+      go true h e = inl (leb-true (n .operator) 3 h, eqb-true (n .third) 65535 e)
+      go false h e = inr (leb-false (n .operator) 3 h, input-ok kinds place (n .third) e)
+
+  ok-third : ThirdOk kinds place n → isThird kinds place n ≡ true
+  ok-third (inl h) = rw (le-leb (n .operator) 3 (h .0), h .1)
+  ok-third (inr h) = rw (lt-leb (n .operator) 3 (h .0)) (ok-input kinds place (n .third) (h .1))
+
+  third-small : kinds ≤ 32 → place < 16 → ThirdOk kinds place n → n .third < 65536
+  third-small c p (inl h) = omega (arith, h .1)
+  third-small c p (inr h) = input-small kinds place (n .third) c p (h .1)
+
   node-ok : nodeFault kinds place n ≡ 0 → NodeOk kinds place n
   node-ok e =
-      let a = unless-none (within 1 3 (n .operator)) 9 _ (omega arith) e in
+      let a = unless-none (within 1 6 (n .operator)) 9 _ (omega arith) e in
       let b = unless-none (within 1 4 (n .context)) 10 _ (omega arith) (a .1) in
       let c = unless-none (isInput kinds place (n .left)) 11 _ (omega arith) (b .1) in
-      let d = unless-none (isInput kinds place (n .right)) 11 0 (omega arith) (c .1) in
-      let o = within-of 1 3 (n .operator) (a .0) in
+      let d = unless-none (isInput kinds place (n .middle)) 11 _ (omega arith) (c .1) in
+      let t = unless-none (isThird kinds place n) 41 0 (omega arith) (d .1) in
+      let o = within-of 1 6 (n .operator) (a .0) in
       let x = within-of 1 4 (n .context) (b .0) in
       record {
         operator-least = o .0;
@@ -87,20 +104,25 @@ module _ (kinds place : ℕ) (n : Node) where
         context-least = x .0;
         context-most = x .1;
         left = input-ok kinds place (n .left) (c .0);
-        right = input-ok kinds place (n .right) (d .0);
+        middle = input-ok kinds place (n .middle) (d .0);
+        third = third-ok (t .0);
       }
 
   ok-node : NodeOk kinds place n → nodeFault kinds place n ≡ 0
   ok-node k =
       rw (
-        within-in 1 3 (n .operator) (k .operator-least) (k .operator-most),
+        within-in 1 6 (n .operator) (k .operator-least) (k .operator-most),
         within-in 1 4 (n .context) (k .context-least) (k .context-most),
         ok-input kinds place (n .left) (k .left),
-        ok-input kinds place (n .right) (k .right),
+        ok-input kinds place (n .middle) (k .middle),
+        ok-third (k .third),
       )
 
   node-fits : kinds ≤ 32 → place < 16 → NodeOk kinds place n → node .fits n
-  node-fits c p k = (omega arith, (omega arith, (input-small kinds place (n .left) c p (k .left), input-small kinds place (n .right) c p (k .right))))
+  node-fits c p k = (
+    omega arith,
+    (omega arith, (input-small kinds place (n .left) c p (k .left), (input-small kinds place (n .middle) c p (k .middle), third-small c p (k .third)))),
+  )
 
 -- ---- the whole plan
 pub record PlanFine (p : Plan) : Type 0 where

@@ -1,7 +1,7 @@
 -- Laws of the plan's entries and sections, as the code's proofs cite them.
 use mathlib.Core.Path.{_≡_, refl, sym, ap}
 use mathlib.Core.List.{List, [], _∷_, _++_}
-use mathlib.Core.Bool.{Bool, true, false, _&&_}
+use mathlib.Core.Bool.{Bool, true, false, _&&_, true≢false}
 use Prim.Native.Nat.{ℕ, _+_, _<_}
 use native.Mathlib.Numerals.{add-one}
 use native.Mathlib.Omega.{arith}
@@ -40,20 +40,31 @@ rising-piece cut wrong b at least l B e =
     go false u k = refl
 
 -- ---- nodes
+-- two tests with one fault
+pub unless-both : (t u : Bool) (fault next : ℕ) → (t && u) ≡ false → unless t fault (unless u fault next) ≡ fault
+unless-both true true fault next h = absurd (true≢false h)
+unless-both true false fault next h = refl
+unless-both false u fault next h = refl
+
 pub node-laws : Laws node
 node-laws =
-    via-laws toNode fromNode (pair (number 1) (pair (number 1) (pair (number 2) (number 2))))
-    (pair-laws (number 1) (pair (number 1) (pair (number 2) (number 2))) (number-laws 1)
-    (pair-laws (number 1) (pair (number 2) (number 2)) (number-laws 1) (pair-laws (number 2) (number 2) (number-laws 2) (number-laws 2))))
+    let two = pair (number 2) (number 2) in
+    let inputs = pair (number 2) two in
+    via-laws toNode fromNode (pair (number 1) (pair (number 1) inputs))
+    (pair-laws (number 1) (pair (number 1) inputs) (number-laws 1)
+    (pair-laws (number 1) inputs (number-laws 1)
+    (pair-laws (number 2) two (number-laws 2) (pair-laws (number 2) (number 2) (number-laws 2) (number-laws 2)))))
     (λ a. refl)
     (λ n. refl)
 
-pub node-value : (b : List ℕ) (at o x l r : ℕ) → o ≡ valueAt 1 b at → x ≡ valueAt 1 b (at + 1) → l ≡ valueAt 2 b (at + 2) → r ≡ valueAt 2 b (at + 4)
-    → record { operator = o; context = x; left = l; right = r } ≡ node .value b at
-node-value b at o x l r eo ex el er =
-    let p : at + 1 + 1 + 2 ≡ at + 4 = omega arith in
-    let q : at + 1 + 1 ≡ at + 2 = omega arith in
-    rw (p, q, eo, ex, el, er)
+pub node-value : (b : List ℕ) (at o x l m t : ℕ)
+    → o ≡ valueAt 1 b at → x ≡ valueAt 1 b (at + 1) → l ≡ valueAt 2 b (at + 2) → m ≡ valueAt 2 b (at + 4) → t ≡ valueAt 2 b (at + 6)
+    → record { operator = o; context = x; left = l; middle = m; third = t } ≡ node .value b at
+node-value b at o x l m t eo ex el em et =
+    let p : at + 1 + 1 + 2 + 2 ≡ at + 6 = omega arith in
+    let q : at + 1 + 1 + 2 ≡ at + 4 = omega arith in
+    let r : at + 1 + 1 ≡ at + 2 = omega arith in
+    rw (p, q, r, eo, ex, el, em, et)
 
 -- the fault of a node hangs on how many are before it
 pub node-piece : (b : List ℕ) (at cut kinds place : ℕ) (l : List Node) → length l ≡ place

@@ -15,9 +15,10 @@ use Rattle.forms.proofs.Numbers.{bytes-append}
 use Rattle.forms.proofs.Forms.{number-laws}
 use Rattle.forms.proofs.Layouts.{SectionOk, section-bytes, then-got, ended-got, section-laid, section-read, rest, room}
 use Rattle.forms.proofs.Faults.{then-bad, ended-bad, no-fault, unless-proper, section-bad}
+use Rattle.plans.specs.Faults.{PlanNumber}
 use Rattle.plans.specs.Layout.{Plan, node, planBytes}
 use Rattle.plans.specs.Limits.{PlanOk}
-use Rattle.plans.specs.Reader.{clocks, above, loggers, kinds, isInput, nodes, planAt, PlanAnswer, accepted, refused, answered, readPlan}
+use Rattle.plans.specs.Reader.{clocks, above, loggers, kinds, isInput, isThird, nodes, planAt, PlanAnswer, accepted, refused, answered, readPlan}
 use Rattle.plans.specs.declared.Node.{Node}
 use Rattle.plans.proofs.Sections.{node-laws}
 use Rattle.plans.proofs.Limits.{PlanFine, fine-ok, ok-fine}
@@ -37,39 +38,41 @@ module _ (b : List ℕ) where
   after-clocks rs at = then (section loggers b at) (after-loggers rs)
 
 -- ---- each refusal has a number of the table
-abbrev Number : ℕ → Type 0
-Number k = (1 ≤ k) × (k ≤ 12)
+not-none : (k : ℕ) → PlanNumber k → k ≡ 0 → ⊥
+not-none k (inl h) z = omega arith
+not-none k (inr h) z = omega arith
 
-plan-bad : (b : List ℕ) (k p : ℕ) → planAt b ≡ bad k p → Number k
+plan-bad : (b : List ℕ) (k p : ℕ) → planAt b ≡ bad k p → PlanNumber k
 unfolding planAt
 plan-bad b k p h =
     ⊎-elim
-    (section-bad Number b clocks (omega arith) (omega arith) (λ l v. unless-proper Number (within 1 1000000 v) (omega arith) (no-fault Number)) 0 k p)
+    (section-bad PlanNumber b clocks (inl (omega arith)) (inl (omega arith)) (λ l v. unless-proper PlanNumber (within 1 1000000 v) (inl (omega arith)) (no-fault PlanNumber)) 0 k p)
     (λ t. ⊎-elim
-    (section-bad Number b loggers (omega arith) (omega arith) (λ l v. unless-proper Number (above l v) (omega arith) (no-fault Number)) (t .1) k p)
+    (section-bad PlanNumber b loggers (inl (omega arith)) (inl (omega arith)) (λ l v. unless-proper PlanNumber (above l v) (inl (omega arith)) (no-fault PlanNumber)) (t .1) k p)
     (λ u. ⊎-elim
-    (section-bad Number b kinds (omega arith) (omega arith) (λ l v. unless-proper Number (above l v) (omega arith) (no-fault Number)) (u .1) k p)
+    (section-bad PlanNumber b kinds (inl (omega arith)) (inl (omega arith)) (λ l v. unless-proper PlanNumber (above l v) (inl (omega arith)) (no-fault PlanNumber)) (u .1) k p)
     (λ v. ⊎-elim
-    (section-bad Number b (nodes (length (v .0))) (omega arith) (omega arith) (λ l n.
-    unless-proper Number (within 1 3 (n .operator)) (omega arith)
-    (unless-proper Number (within 1 4 (n .context)) (omega arith)
-    (unless-proper Number (isInput (length (v .0)) (length l) (n .left)) (omega arith)
-    (unless-proper Number (isInput (length (v .0)) (length l) (n .right)) (omega arith) (no-fault Number))))) (v .1) k p)
-    (λ w. let e = ended-bad 12 b _ (w .1) k p (w .2) in omega arith)
+    (section-bad PlanNumber b (nodes (length (v .0))) (inl (omega arith)) (inl (omega arith)) (λ l n.
+    unless-proper PlanNumber (within 1 6 (n .operator)) (inl (omega arith))
+    (unless-proper PlanNumber (within 1 4 (n .context)) (inl (omega arith))
+    (unless-proper PlanNumber (isInput (length (v .0)) (length l) (n .left)) (inl (omega arith))
+    (unless-proper PlanNumber (isInput (length (v .0)) (length l) (n .middle)) (inl (omega arith))
+    (unless-proper PlanNumber (isThird (length (v .0)) (length l) n) (inr refl) (no-fault PlanNumber)))))) (v .1) k p)
+    (λ w. let e = ended-bad 12 b _ (w .1) k p (w .2) in inl (omega arith))
     (then-bad (section (nodes (length (v .0))) b (v .1)) (end b (t .0) (u .0) (v .0)) k p (v .2)))
     (then-bad (section kinds b (u .1)) (after-kinds b (t .0) (u .0)) k p (u .2)))
     (then-bad (section loggers b (t .1)) (after-loggers b (t .0)) k p (t .2)))
     (then-bad (section clocks b 0) (after-clocks b) k p h)
 
--- one answer: a plan, or a number from 1 to 12 with its place
-pub one-answer : (b : List ℕ) → ((p : Plan) × (readPlan b ≡ accepted p)) ⊎ ((k : ℕ) × (at : ℕ) × (1 ≤ k) × (k ≤ 12) × (readPlan b ≡ refused k at))
+-- one answer: a plan, or a number from 1 to 12 or 41 with its place
+pub one-answer : (b : List ℕ) → ((p : Plan) × (readPlan b ≡ accepted p)) ⊎ ((k : ℕ) × (at : ℕ) × PlanNumber k × (readPlan b ≡ refused k at))
 unfolding readPlan
 one-answer b = go (planAt b) refl
   where
     go : (r : Read Plan) → planAt b ≡ r
-        → ((p : Plan) × (answered r ≡ accepted p)) ⊎ ((k : ℕ) × (at : ℕ) × (1 ≤ k) × (k ≤ 12) × (answered r ≡ refused k at))
+        → ((p : Plan) × (answered r ≡ accepted p)) ⊎ ((k : ℕ) × (at : ℕ) × PlanNumber k × (answered r ≡ refused k at))
     go (got p m) e = inl (p, refl)
-    go (bad k at) e = let n = plan-bad b k at e in inr (k, at, n .0, n .1, refl)
+    go (bad k at) e = inr (k, at, plan-bad b k at e, refl)
 
 -- ---- what is accepted is the bytes of a plan within the limits
 plan-got : (b : List ℕ) (p : Plan) → readPlan b ≡ accepted p → (m : ℕ) × (planAt b ≡ got p m)
@@ -79,9 +82,8 @@ plan-got b p h = go (planAt b) refl h
     go : (r : Read Plan) → planAt b ≡ r → answered r ≡ accepted p → (m : ℕ) × (r ≡ got p m)
     go (got q m) e h = let i : q ≡ p = ap (λ (a : PlanAnswer). a .plan) h in (m, rw i)
     go (bad k at) e h =
-        let n = plan-bad b k at e in
         let z : k ≡ 0 = ap (λ (a : PlanAnswer). a .number) h in
-        absurd (omega (arith, n .0))
+        absurd (not-none k (plan-bad b k at e) z)
 
 single : (l : List ℕ) → length l ≡ 1 → l ≡ getD l 0 0 ∷ []
 single [] h = absurd (omega arith)
@@ -160,7 +162,7 @@ layout-tells p q h k e =
 pub accepted-of : (b : List ℕ) → readPlan b .number ≡ 0 → readPlan b ≡ accepted (readPlan b .plan)
 accepted-of b z =
     ⊎-elim (λ a. a .1 ∙ ap (λ (r : PlanAnswer). accepted (r .plan)) (sym (a .1)))
-    (λ r. let n : readPlan b .number ≡ r .0 = ap (λ (a : PlanAnswer). a .number) (r .4) in absurd (omega (arith, r .2)))
+    (λ r. let n : readPlan b .number ≡ r .0 = ap (λ (a : PlanAnswer). a .number) (r .3) in absurd (not-none (r .0) (r .2) (sym n ∙ z)))
     (one-answer b)
 
 pub accepted-ok : (b : List ℕ) → Bytes b → readPlan b .number ≡ 0 → PlanOk (readPlan b .plan)

@@ -1,15 +1,16 @@
--- Reading a plan file: the table of document 01, "Where work is turned back", in its order.
+-- Reading a plan file: the table of document 01, "Where work is turned back", in its order, with request Q-2.
 use Prim.Native.Nat.{ℕ, _-_}
 use mathlib.Core.List.{List, [], _∷_}
 use mathlib.Core.Bool.{Bool, true, _&&_, _||_}
 use lib.ListN.{length, getD}
-use lib.Dec.{ltb, leb}
+use lib.Dec.{ltb, leb, eqb}
+use Rattle.sequences.specs.Choice.{pick}
 use Rattle.forms.specs.Forms.{number}
 use Rattle.forms.specs.Sections.{unless, within, outside, Read, got, bad, then, Section, section, ended}
 use Rattle.plans.specs.Faults.{numberOf}
 use Rattle.plans.specs.Layout.{Plan, node}
 use Rattle.plans.specs.declared.Node.{Node}
-use Rattle.plans.specs.declared.PlanFault.the-variants.{CutShort, ClockCount, Ratio, LoggerCount, LoggerNumber, KindCount, KindNumber, NodeCount, Operator, Context, Input, BytesRemain}
+use Rattle.plans.specs.declared.PlanFault.the-variants.{CutShort, ClockCount, Ratio, LoggerCount, LoggerNumber, KindCount, KindNumber, NodeCount, Operator, Context, Input, ThirdInput, BytesRemain}
 
 -- ---- clocks: count 1; the ratio, 1 to 1,000,000
 abbrev pub clocks : Section ℕ
@@ -47,18 +48,23 @@ loggers = numbers 8 (numberOf LoggerCount) (numberOf LoggerNumber)
 abbrev pub kinds : Section ℕ
 kinds = numbers 32 (numberOf KindCount) (numberOf KindNumber)
 
--- ---- nodes, 1 to 16: operator, context, left input, right input
+-- ---- nodes, 1 to 16: operator, context, left input, middle input, third input
 -- the place of one of so many kinds, or 32,768 plus the place of a node before this place
 abbrev pub isInput : ℕ → ℕ → ℕ → Bool
 isInput kinds place x = ltb x kinds || (leb 32768 x && ltb (x - 32768) place)
 
+-- the third input is 65,535 for operators 1 to 3, and an input for the others
+abbrev pub isThird : ℕ → ℕ → Node → Bool
+isThird kinds place n = pick (leb (n .operator) 3) (eqb (n .third) 65535) (isInput kinds place (n .third))
+
 -- the fault of a node at a place, under so many kinds
 abbrev pub nodeFault : ℕ → ℕ → Node → ℕ
 nodeFault kinds place n =
-    unless (within 1 3 (n .operator)) (numberOf Operator)
+    unless (within 1 6 (n .operator)) (numberOf Operator)
     (unless (within 1 4 (n .context)) (numberOf Context)
     (unless (isInput kinds place (n .left)) (numberOf Input)
-    (unless (isInput kinds place (n .right)) (numberOf Input) 0)))
+    (unless (isInput kinds place (n .middle)) (numberOf Input)
+    (unless (isThird kinds place n) (numberOf ThirdInput) 0))))
 
 abbrev pub nodes : ℕ → Section Node
 nodes kinds =

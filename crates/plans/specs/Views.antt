@@ -12,9 +12,9 @@ use Rattle.plans.specs.declared.CountRead.{CountRead}
 use Rattle.plans.specs.declared.Node.{Node}
 use Rattle.plans.specs.declared.PlanRead.{PlanRead}
 
--- a node's entry as the code keeps it: operator, context, left input, right input
+-- a node's entry as the code keeps it: operator, context, left input, middle input, third input
 abbrev pub nodeOf : List ℕ → Node
-nodeOf row = record { operator = getD row 0 0; context = getD row 1 0; left = getD row 2 0; right = getD row 3 0 }
+nodeOf row = record { operator = getD row 0 0; context = getD row 1 0; left = getD row 2 0; middle = getD row 3 0; third = getD row 4 0 }
 
 -- the plan that is held in lists
 abbrev pub planOf : ℕ → (loggers kinds : List ℕ) → (nodes : List (List ℕ)) → Plan

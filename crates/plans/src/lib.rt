@@ -1,6 +1,8 @@
-// The plan file: clocks, loggers, kinds and nodes. The layout, the limits and the numbers of the faults are document 01's.
+// The plan file: clocks, loggers, kinds and nodes. The layout, the limits and the numbers of the faults are document 01's,
+// with request Q-2.
 use timestamps::Timestamp;
 ghost use mathlib.Core.Path.{_≡_};
+ghost use mathlib.Core.Bool.{_&&_};
 ghost use Prim.Native.Nat.{ℕ, _+_, _<_, _≤_};
 ghost use mathlib.Core.List.{List, [], _∷_, map};
 ghost use lib.ListN.{length};
@@ -11,7 +13,7 @@ ghost use Rattle.forms.specs.Views.{seen};
 ghost use Rattle.plans.specs.Faults.{numberOf};
 ghost use Rattle.plans.specs.Layout.{node};
 ghost use Rattle.plans.specs.Limits.{noNode};
-ghost use Rattle.plans.specs.Reader.{clocks, numbers, loggers, kinds, nodes, isInput, nodeFault, refused, readPlan};
+ghost use Rattle.plans.specs.Reader.{clocks, numbers, loggers, kinds, nodes, isInput, isThird, nodeFault, refused, readPlan};
 ghost use Rattle.plans.specs.Views.{Filled, answerOf, nodeOf};
 
 // A node entry, with the numbers of the file.
@@ -19,7 +21,8 @@ pub struct Node {
     pub operator: u64,
     pub context: u64,
     pub left: u64,
-    pub right: u64,
+    pub middle: u64,
+    pub third: u64,
 }
 
 impl Node {
@@ -29,14 +32,22 @@ impl Node {
     pub const AND: u64 = 2;
 
     pub const SEQ: u64 = 3;
+
+    pub const APERIODIC: u64 = 4;
+
+    pub const ACCUMULATED: u64 = 5;
+
+    pub const ABSENCE: u64 = 6;
     // The first and the last context.
     pub const RECENT: u64 = 1;
 
     pub const CUMULATIVE: u64 = 4;
     // An input is the place of a kind, or this and the place of an earlier node.
     pub const FIRST_NODE: u64 = 32768;
+    // Stands as the third input of OR, AND and SEQ.
+    pub const NO_INPUT: u64 = 65535;
     // Its bytes in the file.
-    const WIDTH: usize = 6;
+    const WIDTH: usize = 8;
 
     // Stands where there is none.
     pub fn none() -> Self
@@ -46,7 +57,8 @@ impl Node {
             operator: 0,
             context: 0,
             left: 0,
-            right: 0,
+            middle: 0,
+            third: 0,
         }
     }
 }
@@ -71,16 +83,17 @@ pub enum PlanFault {
     Operator,
     Context,
     Input,
+    ThirdInput,
     BytesRemain,
 }
 
-// What a plan is read into: its loggers' and its kinds' numbers, and for each node its operator, its context and its two inputs.
+// What a plan is read into: its loggers' and its kinds' numbers, and for each node its operator, its context and its three inputs.
 pub type Loggers = [u16; 8];
 
 pub type Kinds = [u16; 32];
 
-// A node's operator, its context, and its inputs, left and right.
-pub type NodeRow = [u16; 4];
+// A node's operator, its context, and its inputs, left, middle and third.
+pub type NodeRow = [u16; 5];
 
 pub const OPERATOR: usize = 0;
 
@@ -159,6 +172,7 @@ impl PlanFault {
             PlanFault::Operator => 9,
             PlanFault::Context => 10,
             PlanFault::Input => 11,
+            PlanFault::ThirdInput => 41,
             PlanFault::BytesRemain => 12,
         }
     }
@@ -294,39 +308,62 @@ fn is_input(kinds: usize, place: usize, input: u64) -> bool
     input - Node::FIRST_NODE < place as u64
 }
 
+// Left and middle.
+fn are_inputs(kinds: usize, place: usize, node: Node) -> bool
+    ensures { λ r. ⌜ r ≡ (isInput kinds place (node .left) && isInput kinds place (node .middle)) ⌝ }
+{
+    if !is_input(kinds, place, node.left) {
+        return false;
+    }
+    is_input(kinds, place, node.middle)
+}
+
+// OR, AND and SEQ have no third input, the others have one.
+fn is_third(kinds: usize, place: usize, node: Node) -> bool
+    ensures { λ r. ⌜ r ≡ isThird kinds place node ⌝ }
+{
+    if node.operator <= Node::SEQ {
+        return node.third == Node::NO_INPUT;
+    }
+    is_input(kinds, place, node.third)
+}
+
 fn node_fault(node: Node, kinds: usize, place: usize) -> PlanFault
     ensures { λ r. ⌜ numberOf r ≡ nodeFault kinds place node ⌝ }
 {
-    if !forms::is_within(node.operator, Node::OR, Node::SEQ) {
+    if !forms::is_within(node.operator, Node::OR, Node::ABSENCE) {
         return PlanFault::Operator;
     }
     if !forms::is_within(node.context, Node::RECENT, Node::CUMULATIVE) {
         return PlanFault::Context;
     }
-    if !is_input(kinds, place, node.left) {
+    let inputs = are_inputs(kinds, place, node);
+    let third = is_third(kinds, place, node);
+    if !inputs {
         return PlanFault::Input;
     }
-    if !is_input(kinds, place, node.right) {
-        return PlanFault::Input;
+    if !third {
+        return PlanFault::ThirdInput;
     }
     PlanFault::None
 }
 
 // The entry at a place.
 fn node_at(bytes: &[u8], at: usize) -> Node
-    requires { ⌜ at + 6 ≤ length (now bytes) ⌝ }
+    requires { ⌜ at + 8 ≤ length (now bytes) ⌝ }
     ensures { λ r. ⌜ (r ≡ node .value (now (bytes .entry)) at) × node .fits r ⌝ }
 {
     Node {
         operator: forms::number_at(bytes, at, 1),
         context: forms::number_at(bytes, at + 1, 1),
         left: forms::number_at(bytes, at + 2, 2),
-        right: forms::number_at(bytes, at + 4, 2),
+        middle: forms::number_at(bytes, at + 4, 2),
+        third: forms::number_at(bytes, at + 6, 2),
     }
 }
 
 // The row of a node.
-fn row_of(n: Node) -> [u16; 4]
+fn row_of(n: Node) -> [u16; 5]
     requires { ⌜ node .fits n ⌝ }
     ensures { λ r. ⌜ nodeOf r ≡ n ⌝ }
 {
@@ -334,7 +371,8 @@ fn row_of(n: Node) -> [u16; 4]
         n.operator as u16,
         n.context as u16,
         n.left as u16,
-        n.right as u16,
+        n.middle as u16,
+        n.third as u16,
     ]
 }
 

@@ -12,6 +12,7 @@ use lib.Seq.{getD-set-same, getD-set-other}
 use borrow.Author.Tests.{eq-eqb, ne-eqb}
 use Rattle.sequences.specs.Choice.{pick}
 use Rattle.sequences.specs.Loops.{fold, loop}
+use Rattle.sequences.specs.Marks.{unmarked}
 use Rattle.sequences.proofs.Booleans.{either-way, never-both}
 use Rattle.sequences.proofs.Loops.{fold-append}
 use Rattle.occurrences.specs.declared.Occurrence.{Occurrence}
@@ -28,7 +29,7 @@ use Rattle.emissions.proofs.Limits.{emittedAll-still}
 use Rattle.arrivals.specs.Meetings.{Arrival, Meeting, Setting, Sides, appended, carriedOut, meetingOf, settingOf, sides}
 use Rattle.operators.specs.Turns.{Turned, arrives, begun, inOrder, inputTurn, meetingAt, nodeTurn, sidesOf, turnedOf}
 use Rattle.progress.specs.Progress.{NodeLists, Progress, arrivalsOf, closed, eventStep, noLists, nodeStep, numbersByPlace, runOf, stampOf, start, turnAt, turned}
-use Rattle.progress.specs.Happened.{ComesFrom, FirstOf, Happened, Made, allMade, atNode, clearedBy, findingFrom, foldTells, happened, inArrival, inEvent, inInput, inTurn, joinedBy, listsAfter, listsFrom, loopTells}
+use Rattle.progress.specs.Happened.{ComesFrom, FirstOf, Happened, Made, allMade, atNode, findingFrom, foldTells, happened, inArrival, inEvent, inInput, inTurn, listsAfter, listsFrom, loopTells, otherAfter, ownAfter}
 
 -- ---- a state beside what has happened so far
 module _ {H S : Type 0} (Q : List H → S → Type 0) where
@@ -111,7 +112,7 @@ module _ (s : Setting) (place : ℕ) (e : Emitting) (m : Meeting) where
   wrote = emittedAll (s .room) (s .loggers) place e (m .made)
 
   abbrev after : Sides
-  after = sides (joinedBy m (m .own)) (clearedBy m (m .other)) wrote
+  after = sides (ownAfter m (m .own)) (otherAfter m (m .other)) wrote
 
   record Carried (x : Sides) : Type 0 where
     findings : x .emit .findings ≡ wrote .findings
@@ -119,10 +120,10 @@ module _ (s : Setting) (place : ℕ) (e : Emitting) (m : Meeting) where
     unlimited : reached (x .emit .limit) ≡ false → reached (wrote .limit) ≡ false
     lists : reached (x .emit .limit) ≡ false → x ≡ after
 
-  carried-by : (r w f : Bool) → reached (wrote .limit) ≡ r → m .waits ≡ w → isFull (m .own) ≡ f → Carried (carriedOut s place e m)
+  carried-by : (r w f : Bool) → reached (wrote .limit) ≡ r → m .waits ≡ w → isFull (unmarked (m .own) (m .cleared)) ≡ f → Carried (carriedOut s place e m)
   unfolding carriedOut appended appendedTo
   carried-by true w f p q z = rw p (record { findings = refl; bytes = refl; unlimited = λ h. h; lists = λ h. absurd (never-both p h) })
-  carried-by false false f p q z = rw (p, q) (record { findings = refl; bytes = refl; unlimited = λ h. h; lists = λ h. rw (append-nil (m .own)) })
+  carried-by false false f p q z = rw (p, q) (record { findings = refl; bytes = refl; unlimited = λ h. h; lists = λ h. rw (append-nil (unmarked (m .own) (m .cleared))) })
   carried-by false true false p q z = rw (p, q, z) (record { findings = refl; bytes = refl; unlimited = λ h. h; lists = λ h. refl })
   carried-by false true true p q z =
       rw (p, q, z) (record { findings = refl; bytes = refl; unlimited = λ h. p; lists = λ h. absurd (never-both {b = true} refl h) })
@@ -148,7 +149,7 @@ made-more place (h ∷ l) m =
 
 -- ---- a node's turn
 abbrev listsIn : Turned → NodeLists
-listsIn t = record { left = t .left; right = t .right }
+listsIn t = record { left = t .left; middle = t .middle }
 
 turned-emit : (input : ℕ) (x : Sides) → turnedOf input x .emit ≡ x .emit
 unfolding turnedOf
@@ -234,7 +235,7 @@ module _ (s : Setting) where
     from : ComesFrom (s .loggers) l p
 
   begun-tells : (k : ℕ) (l : List Happened) (p : Progress) → reached (p .limit) ≡ false → Told l p
-      → InTurn k p l (begun (getD (p .waiting) k noLists .left) (getD (p .waiting) k noLists .right) (p .findings) (p .bytes))
+      → InTurn k p l (begun (getD (p .waiting) k noLists .left) (getD (p .waiting) k noLists .middle) (p .findings) (p .bytes))
   begun-tells k l p go q =
       let w = q .from .findings in
       record {
@@ -265,7 +266,7 @@ module _ (s : Setting) where
         let node = getD nodes k noNode in
         let lists = getD (p .waiting) k noLists in
         let inputs = map (arrivalsOf kind own (p .made)) (inputsOf node) in
-        let t = begun (lists .left) (lists .right) (p .findings) (p .bytes) in
+        let t = begun (lists .left) (lists .middle) (p .findings) (p .bytes) in
         by-limit Told (reached (p .limit)) l (inTurn s node k (p .event) inputs t) p (turned k p (nodeTurn s node k (p .event) inputs t)) q
         (λ go. turned-tells k _ p _ (omega (arith, h, few)) (q .size) (turn-tells node k p (p .event) inputs l t (begun-tells k l p go q)))
 

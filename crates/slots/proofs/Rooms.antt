@@ -13,6 +13,7 @@ use lib.ListN.{getD, getD-replicate, length, length-replicate, replicate, set, L
 use lib.Seq.{getD-set-other, getD-set-same}
 use Rattle.sequences.specs.Choice.{pick}
 use Rattle.progress.specs.Seats.{Enough, madeRoom, ofKind, placesAt, roomOf}
+use Rattle.progress.proofs.Parts.{made-room-most, places-most, room-most}
 
 abbrev pub zeros : ℕ → List ℕ
 zeros n = replicate n 0
@@ -56,46 +57,30 @@ enough-turn kinds places i p n e size kind small same = record { most = most; en
           rw (getD-set-other places p q n 0 d, none) (e .enough q h))
     ]
 
--- ---- the places of a list
-module _ (places : List ℕ) (most : (q : ℕ) → getD places q 0 ≤ 16) where
-  places-most : (slot : ℕ) → placesAt places slot ≤ 16
-  unfolding placesAt
-  places-most slot = elim (decLt slot 34) [
-    | yes h ↦ rw (lt-ltb slot 34 h) (most slot)
-    | no h ↦ rw (le-ltb slot 34 (omega arith)) (omega arith)
-  ]
+-- ---- the places of a list, by the code's cases
+module _ (places : List ℕ) (most : (q : ℕ) → getD places q 0 ≤ 16) (i : ℕ) (waits : Bool) (slot : ℕ) where
+  abbrev Room : ℕ → Type 0
+  Room r = (r ≡ roomOf i waits (placesAt places slot)) × (r ≤ 17)
 
-  pub room-most : (waits : Bool) (slot : ℕ) → (1 ≤ roomOf waits (placesAt places slot)) × (roomOf waits (placesAt places slot) ≤ 17)
+  room : {r : ℕ} → r ≡ roomOf i waits (placesAt places slot) → Room r
+  room e = (e, omega (arith, room-most i waits (placesAt places slot) (places-most places most slot)))
+
+  pub room-third : 2 ≤ i → Room 0
   unfolding roomOf
-  room-most true slot = (omega arith, omega (arith, places-most slot))
-  room-most false slot = (omega arith, omega arith)
+  room-third third = room (rw (le-ltb i 2 third))
 
-  -- by the code's cases
-  module _ (waits : Bool) (slot : ℕ) where
-    abbrev Room : ℕ → Type 0
-    Room r = (r ≡ roomOf waits (placesAt places slot)) × (1 ≤ r) × (r ≤ 17)
-
-    room : {r : ℕ} → r ≡ roomOf waits (placesAt places slot) → Room r
-    room e = (e, omega (arith, room-most waits slot), omega (arith, room-most waits slot))
-
+  module _ (list : i < 2) where
     pub room-none : waits ≡ false → Room 1
     unfolding roomOf
-    room-none e = room (rw e)
+    room-none e = room (rw (lt-ltb i 2 list, e))
 
     pub room-kind : waits ≡ true → slot < 34 → Room (getD places slot 0 + 1)
     unfolding roomOf placesAt
-    room-kind e h = room (rw (e, lt-ltb slot 34 h))
+    room-kind e h = room (rw (lt-ltb i 2 list, e, lt-ltb slot 34 h))
 
     pub room-node : waits ≡ true → 34 ≤ slot → Room 17
     unfolding roomOf placesAt
-    room-node e h = room (rw (e, le-ltb slot 34 h))
-
-pub made-room-most : (takers : ℕ) → madeRoom takers ≤ 8
-unfolding madeRoom
-made-room-most takers = elim (ℕ-discrete takers 0) [
-  | yes e ↦ rw (eq-eqb takers 0 e) (omega arith)
-  | no d ↦ rw (ne-eqb takers 0 d) (omega arith)
-]
+    room-node e h = room (rw (lt-ltb i 2 list, e, le-ltb slot 34 h))
 
 pub made-room-fits : (takers room : ℕ) → room ≡ madeRoom takers → room ≤ 8
 made-room-fits takers room e = omega (arith, made-room-most takers)

@@ -22,28 +22,28 @@ total f (suc n) = total f n + f n
 unfoldable pub roomAt : (places : List ℕ) → List Node → (k i : ℕ) → ℕ
 roomAt places nodes k i =
     let node = getD nodes k noNode in
-    roomOf (mayWait (actionOf (node .operator) i)) (placesAt places (slotAt k (getD (inputsOf node) i 0)))
+    roomOf i (mayWait (actionOf (node .operator) i)) (placesAt places (slotAt k (getD (inputsOf node) i 0)))
 
 -- how many are given before that list: to the nodes before, and to the inputs before
 unfoldable pub startAt : (places : List ℕ) → List Node → (k i : ℕ) → ℕ
-startAt places nodes k i = total (λ j. roomAt places nodes j 0 + roomAt places nodes j 1) k + total (roomAt places nodes k) i
+startAt places nodes k i = total (λ j. total (roomAt places nodes j) 3) k + total (roomAt places nodes k) i
 
 -- ---- while the inputs are seated: those of the nodes before k, and of node k those before i
 -- by slot, the nodes that look there by one of these inputs, as bits
 pub record TakersTo (seats : List ℕ) (k i : ℕ) (takers : List ℕ) : Type 0 where
   pub size : length takers ≡ 50
-  pub below : (q j : ℕ) → 2 * k + i ≤ 2 * j → getD takers q 0 < 2 ^ j
-  pub takes : (j h : ℕ) → h < 2 → 2 * j + h < 2 * k + i → (q : ℕ) → q < 50 → seatSlot seats j h ≡ q → isSet (getD takers q 0) j ≡ true
-  pub others : (q j : ℕ) → q < 50 → ((h : ℕ) → h < 2 → 2 * j + h < 2 * k + i → seatSlot seats j h ≡ q → ⊥) → isSet (getD takers q 0) j ≡ false
+  pub below : (q j : ℕ) → 3 * k + i ≤ 3 * j → getD takers q 0 < 2 ^ j
+  pub takes : (j h : ℕ) → h < 3 → 3 * j + h < 3 * k + i → (q : ℕ) → q < 50 → seatSlot seats j h ≡ q → isSet (getD takers q 0) j ≡ true
+  pub others : (q j : ℕ) → q < 50 → ((h : ℕ) → h < 3 → 3 * j + h < 3 * k + i → seatSlot seats j h ≡ q → ⊥) → isSet (getD takers q 0) j ≡ false
 
 -- these inputs have their part of the seats, later nodes have none; the next list begins at l
 pub record Filling (places : List ℕ) (nodes : List Node) (k i : ℕ) (seats takers : List ℕ) (l : ℕ) : Type 0 where
-  pub size : length seats ≡ 136
-  pub action : (j h : ℕ) → h < 2 → 2 * j + h < 2 * k + i → actionFrom (seatAction seats j h) ≡ actionOf (getD nodes j noNode .operator) h
-  pub slot : (j h : ℕ) → h < 2 → 2 * j + h < 2 * k + i → seatSlot seats j h ≡ slotAt j (getD (inputsOf (getD nodes j noNode)) h 0)
-  pub list : (j h : ℕ) → h < 2 → 2 * j + h < 2 * k + i → listStart seats j h ≡ startAt places nodes j h
+  pub size : length seats ≡ 187
+  pub action : (j h : ℕ) → h < 3 → 3 * j + h < 3 * k + i → actionFrom (seatAction seats j h) ≡ actionOf (getD nodes j noNode .operator) h
+  pub slot : (j h : ℕ) → h < 3 → 3 * j + h < 3 * k + i → seatSlot seats j h ≡ slotAt j (getD (inputsOf (getD nodes j noNode)) h 0)
+  pub list : (j h : ℕ) → h < 3 → 3 * j + h < 3 * k + i → listStart seats j h ≡ startAt places nodes j h
   pub next : l ≡ startAt places nodes k i
-  pub past : (j a : ℕ) → 2 * k + i ≤ 2 * j → 8 * j ≤ a → getD seats a 0 ≡ 0
+  pub past : (j a : ℕ) → 3 * k + i ≤ 3 * j → 11 * j ≤ a → getD seats a 0 ≡ 0
   pub taken : TakersTo seats k i takers
 
 -- ---- the inputs of all nodes are seated

@@ -15,16 +15,16 @@ ghost use Rattle.arrivals.specs.Meetings.{actionFrom, mayWait};
 ghost use Rattle.progress.specs.Seats.{Enough, dueAfter, madeRoom, placesAt, roomOf, slotAt};
 ghost use Rattle.slots.specs.Steps.{AllInputs, AllSeated, Filling};
 
-// For each node eight numbers: its context; where what it makes begins; and for each input what an arrival does, its slot, and where those that wait begin.
+// For each node eleven numbers: its context; where what it makes begins; and for each input what an arrival does, its slot, and where those that wait begin.
 // After the last node stands where both end.
-pub type Seats = [u16; 136];
+pub type Seats = [u16; 187];
 
 // How many numbers a seat has, and how many each of its inputs.
-pub const SEAT: usize = 8;
+pub const SEAT: usize = 11;
 
 pub const INPUT: usize = 3;
 // Where a seat's numbers stand. The context is first, then where what the node makes begins; of the first input what an arrival does, its slot, and where those
-// that wait begin. Those of the second stand INPUT further on.
+// that wait begin. Those of the second stand INPUT further on, and those of the third again.
 pub const MADE: usize = 1;
 
 pub const ACTION: usize = 2;
@@ -33,11 +33,11 @@ pub const SLOT: usize = 3;
 
 pub const LIST: usize = 4;
 // Likewise where the second input's list begins, and of the next node its lists, and what it makes.
-pub const RIGHT_LIST: usize = 7;
+pub const MIDDLE_LIST: usize = 7;
 
-pub const NEXT_LIST: usize = 12;
+pub const NEXT_LIST: usize = 15;
 
-pub const NEXT_MADE: usize = 9;
+pub const NEXT_MADE: usize = 12;
 
 // For each slot the nodes that look there, as bits.
 pub type SlotTakers = [u16; 50];
@@ -67,11 +67,15 @@ pub fn count_kinds(kinds: &Places, count: usize, places: &mut KindPlaces)
     }
 }
 
-// How many places a list is given: one for the list itself; and where arrivals may come to wait, as many as those that can come by its slot, 16 at most.
-fn room_of(action: u16, slot: u8, places: &KindPlaces) -> u16
+// How many places the list of an input is given: one for the list itself; and where arrivals may come to wait, as many as those that can come by its slot, 16 at
+// most. What comes by the third never waits, and has no list.
+fn room_of(input: usize, action: u16, slot: u8, places: &KindPlaces) -> u16
     requires { ⌜ ((q : ℕ) → getD (now places) q 0 ≤ 16) ⌝ }
-    ensures { λ r. ⌜ (r ≡ roomOf (mayWait (actionFrom action)) (placesAt (now (places .entry)) slot)) × (1 ≤ r) × (r ≤ 17) ⌝ }
+    ensures { λ r. ⌜ (r ≡ roomOf input (mayWait (actionFrom action)) (placesAt (now (places .entry)) slot)) × (r ≤ 17) ⌝ }
 {
+    if 2 <= input {
+        return 0;
+    }
     if !arrivals::may_wait(action) {
         return 1;
     }
@@ -118,7 +122,7 @@ fn seat_inputs(
     seats: &mut Seats,
     takers: &mut SlotTakers,
 ) -> u16
-    requires { ⌜ (k < 16) × (start ≤ 34 * k) × ((q : ℕ) → getD (now places) q 0 ≤ 16) × (length (now seats) ≡ 136) × (length (now takers) ≡ 50) ⌝ }
+    requires { ⌜ (k < 16) × (start ≤ 34 * k) × ((q : ℕ) → getD (now places) q 0 ≤ 16) × (length (now seats) ≡ 187) × (length (now takers) ≡ 50) ⌝ }
     ensures { λ r. ⌜ ((nodes : List Node) → getD nodes k noNode ≡ nodeOf (now (row .entry))
         → Filling (now (places .entry)) nodes k 0 (now (seats .entry)) (now (takers .entry)) start
         → Filling (now (places .entry)) nodes (k + 1) 0 (now (seats .exit)) (now (takers .exit)) r) ⌝ }
@@ -126,7 +130,7 @@ fn seat_inputs(
     let operator = row[plans::OPERATOR];
     let mut l = start;
     let mut i: usize = 0;
-    while i < 2 {
+    while i < 3 {
         let at = SEAT * k + INPUT * i;
         let action = operators::action_of(operator, i);
         let slot = slot_of(row[plans::INPUTS + i], k);
@@ -135,7 +139,7 @@ fn seat_inputs(
         seats[at + ACTION] = action;
         seats[at + SLOT] = slot as u16;
         seats[at + LIST] = l;
-        l = l + room_of(action, slot, places);
+        l = l + room_of(i, action, slot, places);
         i = i + 1;
     }
     l
@@ -149,7 +153,7 @@ pub fn seat_nodes(
     seats: &mut Seats,
     takers: &mut SlotTakers,
 )
-    requires { ⌜ (n ≤ 16) × ((q : ℕ) → getD (now places) q 0 ≤ 16) × (now seats ≡ replicate 136 0) × (now takers ≡ replicate 50 0) ⌝ }
+    requires { ⌜ (n ≤ 16) × ((q : ℕ) → getD (now places) q 0 ≤ 16) × (now seats ≡ replicate 187 0) × (now takers ≡ replicate 50 0) ⌝ }
     ensures { λ _. ⌜ AllInputs (map nodeOf (take n (now (nodes .entry)))) (now (places .entry)) (now (takers .exit)) (now (seats .exit)) ⌝ }
 {
     // The array as a slice is what tells the proof its length.
@@ -165,7 +169,7 @@ pub fn seat_nodes(
 
 // The rest of each seat: the context, and where what the node makes begins. The event itself stands in front of all that is made.
 pub fn seat_made(nodes: &Nodes, n: usize, takers: &SlotTakers, seats: &mut Seats)
-    requires { ⌜ (n ≤ 16) × (length (now seats) ≡ 136) ⌝ }
+    requires { ⌜ (n ≤ 16) × (length (now seats) ≡ 187) ⌝ }
     ensures { λ _. ⌜ ((places : List ℕ) → AllInputs (map nodeOf (take n (now (nodes .entry)))) places (now (takers .entry)) (now (seats .entry))
         → AllSeated n (map nodeOf (take n (now (nodes .entry)))) places (now (takers .entry)) (now (seats .exit))) ⌝ }
 {

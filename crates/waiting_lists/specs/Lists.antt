@@ -66,3 +66,11 @@ Known ticks globals w = (t : Notes ticks globals) × (l : List Occurrence) × Wa
 
 abbrev pub Arrives : (ticks globals : List ℕ) (w : List (List ℕ)) (p : List ℕ) → Type 0
 Arrives ticks globals w p = (t : Notes ticks globals) × (l : List Occurrence) × (x : Occurrence) × Waits t w l × Stands t p x
+
+-- and beside two lists
+abbrev pub KnownBoth : (ticks globals : List ℕ) (v w : List (List ℕ)) → Type 0
+KnownBoth ticks globals v w = (t : Notes ticks globals) × (k : List Occurrence) × (l : List Occurrence) × Waits t v k × Waits t w l
+
+abbrev pub Beside : (ticks globals : List ℕ) (v w : List (List ℕ)) (p : List ℕ) → Type 0
+Beside ticks globals v w p =
+    (t : Notes ticks globals) × (k : List Occurrence) × (l : List Occurrence) × (x : Occurrence) × Waits t v k × Waits t w l × Stands t p x

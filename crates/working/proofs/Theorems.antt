@@ -1,7 +1,7 @@
 -- Over the definition: every pair of files is worked, or turned back under one number with no finding and no byte (demand 1); exactly
 -- those within layouts and limits are worked (demand 2); what is written has exact latest stamps, and two findings with the same set of
 -- stamps have the same ones (demand 3).
-use mathlib.Core.Logic.{_⊎_, ⊎-elim}
+use mathlib.Core.Logic.{_⊎_, inl, inr, ⊎-elim}
 use mathlib.Core.List.{List, [], _++_, map, Memᴰ·append-left, Memᴰ·append-right, List·Memᴰ·head, List·Memᴰ·tail, List·Memᴰ·not-nil}
 use mathlib.Core.Path.{_≡_, refl, sym, ap, subst, _∙_}
 use Prim.Native.Nat.{ℕ, _≤_}
@@ -12,6 +12,7 @@ use borrow.Author.Tests.{ne-eqb}
 use Rattle.sequences.specs.Members.{_isIn_, SameMembers}
 use Rattle.sequences.specs.Range.{numbersFrom}
 use Rattle.sequences.proofs.Range.{range-in}
+use Rattle.plans.specs.Faults.{PlanNumber}
 use Rattle.plans.specs.Layout.{Plan, planBytes}
 use Rattle.plans.specs.Limits.{PlanOk}
 use Rattle.plans.specs.Layout.{planClocks}
@@ -46,9 +47,9 @@ use Rattle.working.specs.Working.{Answers, Work, answerNumbers, endOf, t
 use Rattle.working.proofs.Latest.{shown-exact, stamps-same}
 
 module _ (plan passage : List ℕ) (room : ℕ) where
-  plan-stops : (number place : ℕ) → 1 ≤ number → readPlan plan ≡ refusedPlan number place → worked plan passage room ≡ turnedBack number place
+  plan-stops : (number place : ℕ) → PlanNumber number → readPlan plan ≡ refusedPlan number place → worked plan passage room ≡ turnedBack number place
   unfolding worked
-  plan-stops number place k e = rw (e, ne-eqb number 0 (λ z. omega (arith, z)))
+  plan-stops number place k e = rw (e, ne-eqb number 0 (λ z. ⊎-elim (λ l. omega (arith, z, l)) (λ l. omega (arith, z, l)) k))
 
   passage-stops : (p : Plan) (number place : ℕ) → 21 ≤ number → readPlan plan ≡ acceptedPlan p → readPassage p passage ≡ refused number place
       → worked plan passage room ≡ turnedBack number place
@@ -67,7 +68,7 @@ module _ (plan passage : List ℕ) (room : ℕ) where
       (λ b. works (a .0) (a .1) (b .0) (b .1) (both-pass (a .0) (b .0) (a .1) (b .1)))
       (λ b. passage-fault (a .0) (a .1) (b .0) (b .1) (b .2) (b .3) (passage-stops (a .0) (b .0) (b .1) (b .2) (a .1) (b .4)))
       (one-passage-answer (a .0) passage))
-      (λ a. plan-fault (a .0) (a .1) (a .2) (a .3) (plan-stops (a .0) (a .1) (a .2) (a .4)))
+      (λ a. plan-fault (a .0) (a .1) (a .2) (plan-stops (a .0) (a .1) (a .2) (a .3)))
       (one-plan-answer plan)
 
 -- ---- demand 2: exactly the files within layouts and limits are worked
@@ -81,17 +82,17 @@ laid-out-is-worked p es room ok fine =
 
 -- and no other two are worked: with 0, or with a limit's number, both are such bytes
 pub worked-is-laid-out : (plan passage : List ℕ) (room : ℕ) → Bytes plan → Bytes passage
-    → (worked plan passage room .number ≡ 0) ⊎ (31 ≤ worked plan passage room .number) → LaidOut plan passage
+    → (worked plan passage room .number ≡ 0) ⊎ ((31 ≤ worked plan passage room .number) × (worked plan passage room .number ≤ 33)) → LaidOut plan passage
 worked-is-laid-out plan passage room B C n = go (every-pair-ends plan passage room)
   where
-    no-fault : (number place : ℕ) → 1 ≤ number → number ≤ 26 → worked plan passage room ≡ turnedBack number place → ⊥
-    no-fault number place l m e =
+    no-fault : (number place : ℕ) → ((1 ≤ number) × (number ≤ 26)) ⊎ (number ≡ 41) → worked plan passage room ≡ turnedBack number place → ⊥
+    no-fault number place l e =
         let same : worked plan passage room .number ≡ number = ap (λ (w : Work). w .number) e in
-        ⊎-elim (λ z. omega (arith, z, same, l)) (λ z. omega (arith, z, same, m)) n
+        ⊎-elim (λ z. ⊎-elim (λ k. omega (arith, z, same, k)) (λ k. omega (arith, z, same, k)) l) (λ z. ⊎-elim (λ k. omega (arith, z, same, k)) (λ k. omega (arith, z, same, k)) l) n
 
     go : Ends plan passage room → LaidOut plan passage
-    go (plan-fault number place l m e) = absurd (no-fault number place l (omega (arith, m)) e)
-    go (passage-fault p a number place l m e) = absurd (no-fault number place (omega (arith, l)) m e)
+    go (plan-fault number place l e) = absurd (no-fault number place (⊎-elim (λ k. inl (k .0, omega (arith, k))) (λ k. inr k) l) e)
+    go (passage-fault p a number place l m e) = absurd (no-fault number place (inl (omega (arith, l), m)) e)
     go (works p a es b e) =
         let x = accepted-is-laid-out plan p B a in
         let y = passage-is-laid-out p passage es C b in
@@ -99,7 +100,7 @@ worked-is-laid-out plan passage room B C n = go (every-pair-ends plan passage ro
 
 -- ---- the first bytes decide
 -- one byte more than the longest plan and the longest passage have are enough: what stands after them changes nothing
-module _ (plan passage : List ℕ) (room m n : ℕ) (enough : 189 ≤ m) (enough′ : 1539 ≤ n) (C : Bytes passage) where
+module _ (plan passage : List ℕ) (room m n : ℕ) (enough : 221 ≤ m) (enough′ : 1539 ≤ n) (C : Bytes passage) where
   same-plan : readPlan (take m plan) ≡ readPlan plan
   same-plan = plan-first plan m enough
 
@@ -119,18 +120,18 @@ module _ (plan passage : List ℕ) (room m n : ℕ) (enough : 189 ≤ m) (enough
       (λ b. passage-stops (take m plan) (take n passage) room (a .0) (b .0) (b .1) (b .2) (same-plan ∙ a .1) (passage-first (a .0) passage n enough′ ∙ b .4)
       ∙ sym (passage-stops plan passage room (a .0) (b .0) (b .1) (b .2) (a .1) (b .4)))
       (one-passage-answer (a .0) passage))
-      (λ a. plan-stops (take m plan) (take n passage) room (a .0) (a .1) (a .2) (same-plan ∙ a .4) ∙ sym (plan-stops plan passage room (a .0) (a .1) (a .2) (a .4)))
+      (λ a. plan-stops (take m plan) (take n passage) room (a .0) (a .1) (a .2) (same-plan ∙ a .3) ∙ sym (plan-stops plan passage room (a .0) (a .1) (a .2) (a .3)))
       (one-plan-answer plan)
 
 -- ---- the numbers of the table
-of-plan : (k : ℕ) → 1 ≤ k → k ≤ 12 → k isIn answerNumbers
-of-plan k l m = List·Memᴰ·tail (Memᴰ·append-left (numbersFrom 21 6 ++ numbersFrom 31 3) (range-in 1 12 k l (omega arith)))
+of-plan : (k : ℕ) → PlanNumber k → k isIn answerNumbers
+of-plan k n = ⊎-elim (λ l. List·Memᴰ·tail (List·Memᴰ·tail (Memᴰ·append-left (numbersFrom 21 6 ++ numbersFrom 31 3) (range-in 1 12 k (l .0) (omega (arith, l)))))) (λ l. List·Memᴰ·tail (List·Memᴰ·head l)) n
 
 of-passage : (k : ℕ) → 21 ≤ k → k ≤ 26 → k isIn answerNumbers
-of-passage k l m = List·Memᴰ·tail (Memᴰ·append-right (numbersFrom 1 12) (Memᴰ·append-left (numbersFrom 31 3) (range-in 21 6 k l (omega arith))))
+of-passage k l m = List·Memᴰ·tail (List·Memᴰ·tail (Memᴰ·append-right (numbersFrom 1 12) (Memᴰ·append-left (numbersFrom 31 3) (range-in 21 6 k l (omega arith)))))
 
 of-working : (k : ℕ) → 31 ≤ k → k ≤ 33 → k isIn answerNumbers
-of-working k l m = List·Memᴰ·tail (Memᴰ·append-right (numbersFrom 1 12) (Memᴰ·append-right (numbersFrom 21 6) (range-in 31 3 k l (omega arith))))
+of-working k l m = List·Memᴰ·tail (List·Memᴰ·tail (Memᴰ·append-right (numbersFrom 1 12) (Memᴰ·append-right (numbersFrom 21 6) (range-in 31 3 k l (omega arith)))))
 
 of-limit : (l : Limit) → numberOf l isIn answerNumbers
 unfolding numberOf
@@ -175,7 +176,7 @@ module _ (plan passage : List ℕ) (room : ℕ) (B : Bytes plan) (C : Bytes pass
   worked-exact = go (every-pair-ends plan passage room)
     where
       go : Ends plan passage room → LatestExact plan passage (worked plan passage room .findings) (worked plan passage room .bytes)
-      go (plan-fault number place l m e) = none-written number place e
+      go (plan-fault number place l e) = none-written number place e
       go (passage-fault p a number place l m e) = none-written number place e
       go (works p a es b e) = rw e (as-read p a es b _ _ (run-written p a es b))
 
@@ -184,7 +185,7 @@ module _ (plan passage : List ℕ) (room : ℕ) (B : Bytes plan) (C : Bytes pass
   one-number = go (every-pair-ends plan passage room)
     where
       go : Ends plan passage room → worked plan passage room .number isIn answerNumbers
-      go (plan-fault number place l m e) = rw e (of-plan number l m)
+      go (plan-fault number place l e) = rw e (of-plan number l)
       go (passage-fault p a number place l m e) = rw e (of-passage number l m)
       go (works p a es b e) = rw e (of-limit (runOf room p (passageEvents p passage) .limit))
 

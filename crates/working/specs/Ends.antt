@@ -2,6 +2,7 @@
 use mathlib.Core.List.{List}
 use mathlib.Core.Path.{_≡_}
 use Prim.Native.Nat.{ℕ, _≤_}
+use Rattle.plans.specs.Faults.{PlanNumber}
 use Rattle.plans.specs.Layout.{Plan, planBytes}
 use Rattle.plans.specs.Limits.{PlanOk}
 use Rattle.plans.specs.Reader.{readPlan, accepted as acceptedPlan}
@@ -13,9 +14,9 @@ use Rattle.passages.specs.Reader.{readPassage, accepted}
 use Rattle.progress.specs.Progress.{runOf}
 use Rattle.working.specs.Working.{endOf, turnedBack, worked}
 
--- the plan is turned back under 1 to 12, or the passage under 21 to 26, or both are accepted and the passage is worked
+-- the plan is turned back under 1 to 12 or 41, or the passage under 21 to 26, or both are accepted and the passage is worked
 pub data Ends (plan passage : List ℕ) (room : ℕ) : Type 0 where
-  plan-fault : (number place : ℕ) → 1 ≤ number → number ≤ 12 → worked plan passage room ≡ turnedBack number place → Ends plan passage room
+  plan-fault : (number place : ℕ) → PlanNumber number → worked plan passage room ≡ turnedBack number place → Ends plan passage room
   passage-fault : (p : Plan) → readPlan plan ≡ acceptedPlan p → (number place : ℕ) → 21 ≤ number → number ≤ 26 → worked plan passage room ≡ turnedBack number place → Ends plan passage room
   works : (p : Plan) → readPlan plan ≡ acceptedPlan p → (es : List EventEntry) → readPassage p passage ≡ accepted es
       → worked plan passage room ≡ endOf (runOf room p (passageEvents p passage)) → Ends plan passage room

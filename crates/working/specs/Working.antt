@@ -21,9 +21,9 @@ pub record Work : Type 0 where
   pub findings : ℕ
   pub bytes : List ℕ
 
--- 0, and the numbers of the table for two files: 1 to 12 of the plan, 21 to 26 of the passage, 31 to 33 on the way
+-- 0, and the numbers of the table for two files: 1 to 12 and 41 of the plan, 21 to 26 of the passage, 31 to 33 on the way
 abbrev pub answerNumbers : List ℕ
-answerNumbers = 0 ∷ (numbersFrom 1 12 ++ (numbersFrom 21 6 ++ numbersFrom 31 3))
+answerNumbers = 0 ∷ 41 ∷ (numbersFrom 1 12 ++ (numbersFrom 21 6 ++ numbersFrom 31 3))
 
 -- a fault in a file: no finding, no byte
 abbrev pub turnedBack : ℕ → ℕ → Work

@@ -1,5 +1,6 @@
 //! Plans and passages: valid ones, ones at the limits, and spoilt ones.
 
+mod intervals;
 mod spoilt;
 mod valid;
 
@@ -11,7 +12,7 @@ use valid::{any_events, any_plan, valid_files};
 
 pub fn file_case(random: &mut Random) -> FileCase {
     let (mut plan, mut events) = valid_files(random);
-    while random.one_in(6) {
+    while random.one_in(5) {
         spoil_plan(random, &mut plan);
     }
     while random.one_in(8) {

@@ -1,17 +1,16 @@
 //! What makes files be turned back.
 
-use crate::files::{EventEntry, FileCase, NodeEntry, PlanFile, NODE_INPUT, OR, RECENT};
+use crate::files::{EventEntry, FileCase, NodeEntry, PlanFile, NODE_INPUT, NO_INPUT, OR, RECENT, SEQ};
 use crate::generator::random::Random;
 
 pub fn spoil_plan(random: &mut Random, plan: &mut PlanFile) {
-    match random.below(6) {
+    match random.below(7) {
         0 => plan.ratios = random.pick(&[&[][..], &[10, 10], &[0], &[1_000_001], &[u32::MAX]]).to_vec(),
         1 => spoil_numbers(random, &mut plan.loggers, 9),
         2 => spoil_numbers(random, &mut plan.kinds, 33),
         3 => {
             let count = random.pick(&[0, 17, 40]);
-            let node = NodeEntry { operator: OR, context: RECENT, left: 0, right: 0 };
-            plan.nodes.resize(count, node);
+            plan.nodes.resize(count, NodeEntry::new(OR, RECENT, &[0, 0]));
         }
         _ => spoil_node(random, plan),
     }
@@ -36,13 +35,17 @@ fn spoil_node(random: &mut Random, plan: &mut PlanFile) {
     }
     let place = random.below(plan.nodes.len() as u64) as usize;
     let itself = NODE_INPUT + place as u16;
-    let input = random.pick(&[plan.kinds.len() as u16, NODE_INPUT - 1, itself, itself + 1, u16::MAX]);
+    let input = random.pick(&[plan.kinds.len() as u16, NODE_INPUT - 1, itself, itself + 1, NO_INPUT]);
     let node = &mut plan.nodes[place];
-    match random.below(4) {
-        0 => node.operator = random.pick(&[0, 4, 255]),
+    match random.below(6) {
+        0 => node.operator = random.pick(&[0, 7, 255]),
         1 => node.context = random.pick(&[0, 5, 255]),
         2 => node.left = input,
-        _ => node.right = input,
+        3 => node.middle = input,
+        4 if node.operator <= SEQ => node.third = random.pick(&[0, input, itself - 1, NO_INPUT - 1]),
+        4 => node.third = input,
+        // As many inputs as before, and an operator of more or fewer.
+        _ => node.operator = node.operator.wrapping_add(2) % 6 + 1,
     }
 }
 

@@ -1,20 +1,21 @@
 //! Valid plans and passages, many of them at a limit.
 
-use crate::files::{
-    EventEntry, NodeEntry, PlanFile, AND, CHRONICLE, CONTINUOUS, CUMULATIVE, NODE_INPUT, OR, RECENT, SEQ,
-};
+use super::intervals::interval_files;
+use crate::files::{EventEntry, NodeEntry, PlanFile, ABSENCE, ACCUMULATED, AND, APERIODIC, NODE_INPUT, OR, SEQ};
+use crate::files::{CHRONICLE, CONTINUOUS, CUMULATIVE, RECENT};
 use crate::generator::random::Random;
 use crate::generator::MAX_TICK;
 
-type Files = (PlanFile, Vec<EventEntry>);
+pub type Files = (PlanFile, Vec<EventEntry>);
 
 pub fn valid_files(random: &mut Random) -> Files {
-    match random.below(12) {
+    match random.below(18) {
         0 => waiting_limit(random),
         1 => detection_limit(random),
         2 => doubling(random),
         3 => gathering(random),
-        4 => nesting(random),
+        4 | 5 => nesting(random),
+        6..=10 => interval_files(random),
         _ => {
             let nodes = random.pick(&[1, 2, 3, 4, 8, 16]);
             let events = random.pick(&[3, 10, 20, 40, 128]);
@@ -72,14 +73,12 @@ fn any_node(random: &mut Random, place: u16, kinds: u64, chained: u64) -> NodeEn
         let any = random.below(u64::from(place)) as u16;
         NODE_INPUT + random.pick(&[place - 1, place - 1, any])
     };
-    let (left, right) = (input(), input());
-    let right = if random.one_in(12) { left } else { right };
-    NodeEntry {
-        operator: random.pick(&[OR, AND, AND, SEQ, SEQ, SEQ]),
-        context: random.between(1, 4) as u8,
-        left,
-        right,
+    let mut inputs = [input(), input(), input()];
+    if random.one_in(8) {
+        inputs[random.between(1, 2) as usize] = inputs[random.below(2) as usize];
     }
+    let operator = random.pick(&[OR, OR, AND, AND, SEQ, SEQ, SEQ, APERIODIC, ACCUMULATED, ABSENCE]);
+    NodeEntry::of_three(operator, random.between(1, 4) as u8, inputs)
 }
 
 /// Events whose global ticks advance slowly, arriving somewhat out of order, with many ties.
@@ -103,45 +102,42 @@ pub fn any_events(random: &mut Random, plan: &PlanFile, most: u64) -> Vec<EventE
     events
 }
 
-/// One node on kinds 7 and 9 and two loggers.
-fn small_plan(random: &mut Random, operators: &[u8]) -> PlanFile {
-    let node = NodeEntry { operator: random.pick(operators), context: random.between(1, 4) as u8, left: 0, right: 1 };
-    PlanFile { ratios: vec![10], loggers: vec![1, 2], kinds: vec![7, 9], nodes: vec![node] }
+/// One node on kinds 7, 9 and, where it has a third input, 11, and two loggers.
+pub fn small_plan(random: &mut Random, operators: &[u8]) -> PlanFile {
+    let node = NodeEntry::of_three(random.pick(operators), random.between(1, 4) as u8, [0, 1, 2]);
+    PlanFile { ratios: vec![10], loggers: vec![1, 2], kinds: vec![7, 9, 11], nodes: vec![node] }
+}
+
+/// Some reports of a kind by two loggers. Their ticks are below `spread` from the first on.
+pub fn burst(random: &mut Random, kind: u16, count: u64, (first, spread): (u64, u64)) -> Vec<EventEntry> {
+    let event = |_| EventEntry { kind, logger: random.pick(&[1, 1, 2]), tick: first + random.below(spread) };
+    (0..count).map(event).collect()
 }
 
 /// Lists filled to 15, 16 or 17, emptied in part, and filled again.
 fn waiting_limit(random: &mut Random) -> Files {
-    let plan = small_plan(random, &[AND, SEQ]);
+    let plan = small_plan(random, &[AND, SEQ, APERIODIC]);
     let mut events = Vec::new();
     let spread = random.pick(&[1, 30]);
     for round in 0..random.between(1, 4) {
         let lefts = if round == 0 { random.between(14, 17) } else { random.between(1, 17) };
-        for _ in 0..lefts {
-            let logger = random.pick(&[1, 1, 2]);
-            events.push(EventEntry { kind: 7, logger, tick: round * 100 + random.below(spread) });
-        }
-        for _ in 0..random.between(0, 2) {
-            events.push(EventEntry { kind: 9, logger: 2, tick: round * 100 + random.below(60) });
-        }
+        events.extend(burst(random, 7, lefts, (round * 100, spread)));
+        let middles = random.below(3);
+        events.extend(burst(random, 9, middles, (round * 100, 60)));
     }
     (plan, events)
 }
 
 /// Around eight that wait, mostly taken all at once.
 fn detection_limit(random: &mut Random) -> Files {
-    let mut plan = small_plan(random, &[AND, SEQ]);
+    let mut plan = small_plan(random, &[AND, SEQ, APERIODIC]);
     plan.nodes[0].context = random.pick(&[RECENT, CHRONICLE, CONTINUOUS, CONTINUOUS, CUMULATIVE]);
     if random.one_in(2) {
-        let again = NodeEntry { operator: OR, context: RECENT, left: NODE_INPUT, right: random.pick(&[1, NODE_INPUT]) };
-        plan.nodes.push(again);
+        plan.nodes.push(NodeEntry::new(OR, RECENT, &[NODE_INPUT, random.pick(&[1, NODE_INPUT])]));
     }
     let lefts = random.between(4, 10);
     let spread = random.pick(&[1, 10, 20]);
-    let mut events = Vec::new();
-    for i in 0..lefts {
-        let logger = random.pick(&[1, 2]);
-        events.push(EventEntry { kind: 7, logger, tick: 80 + i % spread });
-    }
+    let mut events = burst(random, 7, lefts, (80, spread));
     for _ in 0..random.between(1, 3) {
         events.push(EventEntry { kind: 9, logger: 2, tick: random.pick(&[85, 110, 120]) });
     }
@@ -153,9 +149,9 @@ fn doubling(random: &mut Random) -> Files {
     let mut plan = small_plan(random, &[AND, SEQ, OR]);
     for place in 0..random.between(1, 15) as u16 {
         let before = NODE_INPUT + place;
-        let right = random.pick(&[0, 1, before]);
-        let operator = random.pick(&[OR, OR, AND, SEQ]);
-        plan.nodes.push(NodeEntry { operator, context: random.between(1, 4) as u8, left: before, right });
+        let (middle, third) = (random.pick(&[0, 1, before]), random.pick(&[0, 2, before]));
+        let operator = random.pick(&[OR, OR, OR, AND, SEQ, APERIODIC, ACCUMULATED, ABSENCE]);
+        plan.nodes.push(NodeEntry::of_three(operator, random.between(1, 4) as u8, [before, middle, third]));
     }
     let events = any_events(random, &plan, 30);
     (plan, events)
@@ -163,7 +159,7 @@ fn doubling(random: &mut Random) -> Files {
 
 /// Cumulative nodes that gather up to all 128 events, of up to all loggers, in one detection.
 fn gathering(random: &mut Random) -> Files {
-    let cumulative = |left, right| NodeEntry { operator: AND, context: CUMULATIVE, left, right };
+    let cumulative = |left, middle| NodeEntry::new(AND, CUMULATIVE, &[left, middle]);
     let nodes = vec![cumulative(0, 1), cumulative(NODE_INPUT, 2), cumulative(NODE_INPUT + 1, NODE_INPUT)];
     let plan = PlanFile { ratios: vec![10], loggers: (1..9).collect(), kinds: vec![7, 9, 11], nodes };
     let loggers = few(random, 8, 8) as u64;
@@ -189,8 +185,9 @@ fn nesting(random: &mut Random) -> Files {
     for place in 0..16 {
         let context = random.pick(&[RECENT, CHRONICLE, CONTINUOUS, CUMULATIVE, CUMULATIVE]);
         let left = if place == 0 { 0 } else { NODE_INPUT + place - 1 };
-        let right = if place > 1 && random.one_in(6) { left - 1 } else { random.pick(&[0, 1]) };
-        nodes.push(NodeEntry { operator: random.pick(&[OR, AND, SEQ, SEQ, SEQ]), context, left, right });
+        let middle = if place > 1 && random.one_in(6) { left - 1 } else { random.pick(&[0, 1]) };
+        let operator = random.pick(&[OR, AND, SEQ, SEQ, SEQ, SEQ, APERIODIC, ACCUMULATED]);
+        nodes.push(NodeEntry::of_three(operator, context, [left, middle, random.pick(&[0, 1])]));
     }
     let plan = PlanFile { ratios: vec![10], loggers: (1..9).collect(), kinds: vec![7, 9], nodes };
     let pace = random.pick(&[5, 20, 30]);

@@ -10,7 +10,7 @@ use Rattle.occurrences.proofs.order_by_place.Tie as tie
 use Rattle.occurrences.proofs.order_by_place.Reads as reads
 use Rattle.occurrences.proofs.order_by_place.Lts as lts
 use Rattle.occurrences.proofs.before.Reads as before-reads
-use Rattle.occurrences.proofs.weakly_before.Reads as weakly-before-reads
+use Rattle.occurrences.proofs.weakly_by_place.Reads as weakly-by-place-reads
 
 before-requires : tie.Need-before-requires
 before-requires c κs = search needs
@@ -26,8 +26,8 @@ returns-2 : tie.Need-returns-2
 unfolding occurrenceOrder
 returns-2 c = λ t x y l f p q. sym (word-after (t .clocks) _ _ (stands-composite t _ y q) (sym (c .before .before3 .ensures t y x f q p) ∙ c .if2 .taken))
 
-weakly-before-requires : tie.Need-weakly-before-requires
-weakly-before-requires c κs = search needs
+weakly-by-place-requires : tie.Need-weakly-by-place-requires
+weakly-by-place-requires c κs = search needs
 
 returns-3 : tie.Need-returns-3
 unfolding occurrenceOrder
@@ -35,10 +35,10 @@ returns-3 c =
     let two = c .before .before in
     let one = two .before .before in
     λ t x y l f p q. sym (word-incomparable (t .clocks) _ _ (sym (one .before .before2 .ensures t x y l p q) ∙ one .if1 .left) (sym (two .before .before3 .ensures t y x f q p) ∙ two .if2 .left)
-    (rw (sym (c .before .weakly-before .ensures t x y f p q) ∙ not-true _ (c .if3 .taken))))
+    (rw (sym (c .before .weakly-by-place .ensures t x y f p q) ∙ not-true _ (c .if3 .taken))))
 
-weakly-before-requires-2 : tie.Need-weakly-before-requires-2
-weakly-before-requires-2 c κs = search needs
+weakly-by-place-requires-2 : tie.Need-weakly-by-place-requires-2
+weakly-by-place-requires-2 c κs = search needs
 
 returns-4 : tie.Need-returns-4
 unfolding occurrenceOrder
@@ -47,7 +47,7 @@ returns-4 c =
     let two = three .before .before in
     let one = two .before .before in
     λ t x y l f p q. sym (word-incomparable (t .clocks) _ _ (sym (one .before .before2 .ensures t x y l p q) ∙ one .if1 .left) (sym (two .before .before3 .ensures t y x f q p) ∙ two .if2 .left)
-    (rw (sym (three .before .weakly-before .ensures t x y f p q) ∙ not-false _ (three .if3 .left), sym (c .before .weakly-before2 .ensures t y x l q p) ∙ not-true _ (c .if4 .taken))))
+    (rw (sym (three .before .weakly-by-place .ensures t x y f p q) ∙ not-false _ (three .if3 .left), sym (c .before .weakly-by-place2 .ensures t y x l q p) ∙ not-true _ (c .if4 .taken))))
 
 returns-5 : tie.Need-returns-5
 unfolding occurrenceOrder
@@ -56,7 +56,7 @@ returns-5 c =
     let two = three .before .before in
     let one = two .before .before in
     λ t x y l f p q. sym (word-concurrent (t .clocks) _ _ (sym (one .before .before2 .ensures t x y l p q) ∙ one .if1 .left) (sym (two .before .before3 .ensures t y x f q p) ∙ two .if2 .left)
-    (sym (three .before .weakly-before .ensures t x y f p q) ∙ not-false _ (three .if3 .left)) (sym (c .before .weakly-before2 .ensures t y x l q p) ∙ not-false _ (c .if4 .left)))
+    (sym (three .before .weakly-by-place .ensures t x y f p q) ∙ not-false _ (three .if3 .left)) (sym (c .before .weakly-by-place2 .ensures t y x l q p) ∙ not-false _ (c .if4 .left)))
 
 pub order-by-place-spec : {M : Type 1} → statement M
 order-by-place-spec =
@@ -66,8 +66,8 @@ order-by-place-spec =
     returns
     before-requires-2
     returns-2
-    weakly-before-requires
+    weakly-by-place-requires
     returns-3
-    weakly-before-requires-2
+    weakly-by-place-requires-2
     returns-4
     returns-5)

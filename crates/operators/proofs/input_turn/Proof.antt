@@ -31,8 +31,8 @@ abbrev Inv-loop : tie.InvT-loop
 Inv-loop turn lists₀ tally₀ made₀ arrivals ticks globals loggers out₀ n i₀ lists tally made out i =
     (i ≤ n) × (length out ≡ length out₀) × Beyond out₀ out (bytesIn tally₀) (findingsIn tally) (bytesIn tally) × (length lists ≡ length lists₀)
     × ((t : Notes ticks globals) (node : Node) (x : Turned) (l : List Occurrence) (event : ℕ) → Takes node turn → Stand t arrivals l
-    → HoldsTurned t None (turn .middle) lists₀ tally₀ made₀ out₀ x
-    → HoldsTurned t None (turn .middle) lists tally made out
+    → HoldsTurned t None (turn .split) lists₀ tally₀ made₀ out₀ x
+    → HoldsTurned t None (turn .split) lists tally made out
     (fold (arrives (settingOf (length out₀) (t .clocks) loggers) node (turn .place)) (take i (inOrder event (turn .input) 0 l)) x))
 
 abbrev μ-loop : tie.MeasureT-loop
@@ -93,12 +93,12 @@ act-requires c κs =
     let turn = s .args .turn in
     let set = settingOf (length (s .args .out .now)) (t .clocks) (s .args .loggers .now) in
     let few = first-few set node (turn .place) (turn .input) 0 l (a .loop .i) x in
-    let before = waits-length t _ _ (held-of t (turn .input) (turn .middle) x h .own-waits) in
-    let after = waits-length t _ _ (held-of t (turn .input) (turn .middle) _ was .own-waits) in (
+    let before = waits-length t _ _ (held-of t (turn .input) (turn .split) x h .own-waits) in
+    let after = waits-length t _ _ (held-of t (turn .input) (turn .split) _ was .own-waits) in (
       (t, _, arrival-at 0 (turn .input) l (a .loop .i) .occurrence, was, stands-at in-loop t l 0 g),
       (a .loop .inv .2 .within, a .loop .inv .2 .few),
-      λ may. spare-on (ownPart (turn .input) (turn .middle) (s .args .lists .now)) (ownPart (turn .input) (turn .middle) (a .loop .lists)) (length (s .args .arrivals .now)) (a .loop .i) 1 (spares may)
-          (part-long (turn .input) (turn .middle) (s .args .lists .now) (a .loop .lists) (a .loop .inv .3)) (omega (arith, few .0, before, after)) (omega (arith, in-loop .loop-test .taken)),
+      λ may. spare-on (ownPart (turn .input) (turn .split) (s .args .lists .now)) (ownPart (turn .input) (turn .split) (a .loop .lists)) (length (s .args .arrivals .now)) (a .loop .i) 1 (spares may)
+          (part-long (turn .input) (turn .split) (s .args .lists .now) (a .loop .lists) (a .loop .inv .3)) (omega (arith, few .0, before, after)) (omega (arith, in-loop .loop-test .taken)),
     )
 
 is-reached-requires : tie.Need-is-reached-requires Inv-loop μ-loop
@@ -116,7 +116,7 @@ in-of c = call-of c .before .before .before .before .before .before
 
 module _ (c : Told) (t : Notes (start-of (in-of c) .args .ticks .now) (start-of (in-of c) .args .globals .now)) (node : Node) (x : Turned) (l : List Occurrence) (event : ℕ)
     (takes : Takes node (start-of (in-of c) .args .turn)) (g : Stand t (start-of (in-of c) .args .arrivals .now) l)
-    (h : (let a = start-of (in-of c) .args in HoldsTurned t None (a .turn .middle) (a .lists .now) (a .tally .now) (a .made .now) (a .out .now) x)) where
+    (h : (let a = start-of (in-of c) .args in HoldsTurned t None (a .turn .split) (a .lists .now) (a .tally .now) (a .made .now) (a .out .now) x)) where
   abbrev i-of : ℕ
   i-of = in-of c .before .loop .i
 
@@ -127,7 +127,7 @@ module _ (c : Told) (t : Notes (start-of (in-of c) .args .ticks .now) (start-of 
   then-of = let a = start-of (in-of c) .args in
       fold (arrives (settingOf (length (a .out .now)) (t .clocks) (a .loggers .now)) node (a .turn .place)) (take (i-of + 1) (inOrder event (a .turn .input) 0 l)) x
 
-  holds-then : HoldsTurned t (call-of c .act .result) (start-of (in-of c) .args .turn .middle) (call-of c .act .last .1 .0) (call-of c .act .last .1 .1 .0) (call-of c .act .last .1 .1 .1 .0)
+  holds-then : HoldsTurned t (call-of c .act .result) (start-of (in-of c) .args .turn .split) (call-of c .act .last .1 .0) (call-of c .act .last .1 .1 .0) (call-of c .act .last .1 .1 .1 .0)
       (call-of c .act .last .1 .1 .1 .1 .1 .1 .1 .1 .0) then-of
   holds-then =
       let s = start-of (in-of c) in
@@ -137,7 +137,7 @@ module _ (c : Told) (t : Notes (start-of (in-of c) .args .ticks .now) (start-of 
       let then = call-of c .act .ensures .0 t node _ (arrival-at event (turn .input) l i-of) takes (by-input (in-of c) l event in-l) (stands-at (in-of c) t l event g) was in
       let f : ℕ → Turned → Arrival → Turned = λ n. arrives (settingOf n (t .clocks) (s .args .loggers .now)) node (turn .place) in
       let all = inOrder event (turn .input) 0 l in
-      subst (HoldsTurned t (call-of c .act .result) (turn .middle) (call-of c .act .last .1 .0) (call-of c .act .last .1 .1 .0) (call-of c .act .last .1 .1 .1 .0) (call-of c .act .last .1 .1 .1 .1 .1 .1 .1 .1 .0))
+      subst (HoldsTurned t (call-of c .act .result) (turn .split) (call-of c .act .last .1 .0) (call-of c .act .last .1 .1 .0) (call-of c .act .last .1 .1 .1 .0) (call-of c .act .last .1 .1 .1 .1 .1 .1 .1 .1 .0))
       (ap (λ (n : ℕ). f n (fold (f (length (s .args .out .now))) (take i-of all) x) (arrival-at event (turn .input) l i-of)) (loop .inv .1)
       ∙ sym (fold-before (f (length (s .args .out .now))) all i-of x noArrival (omega (arith, in-l, in-order-length event (turn .input) 0 l))))
       then

@@ -1,4 +1,4 @@
--- The left one, or the right one.
+-- The left one, or the middle one.
 use mathlib.Core.Path.{refl}
 use native.Mathlib.Omega.{arith}
 use Rattle.operators.proofs.part_of.Statement.{statement}

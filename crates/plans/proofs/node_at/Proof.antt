@@ -28,11 +28,18 @@ add-number-at-3 c = search needs
 number-at-requires-4 : tie.Need-number-at-requires-4
 number-at-requires-4 c κs = search needs
 
+add-number-at-4 : tie.Need-add-number-at-4
+add-number-at-4 c = search needs
+
+number-at-requires-5 : tie.Need-number-at-requires-5
+number-at-requires-5 c κs = search needs
+
 returns : tie.Need-returns
 returns c =
-    let s = c .before .before .before .before in
+    let s = c .before .before .before .before .before in
     let a = s .before .args in
-    let is = node-value (a .bytes .now) (a .at) _ _ _ _ (c .before .before .before .number-at .ensures) (c .before .before .number-at2 .ensures) (c .before .number-at3 .ensures) (c .number-at4 .ensures) in
+    let is = node-value (a .bytes .now) (a .at) _ _ _ _ _
+    (c .before .before .before .before .number-at .ensures) (c .before .before .before .number-at2 .ensures) (c .before .before .number-at3 .ensures) (c .before .number-at4 .ensures) (c .number-at5 .ensures) in
     (is, subst (node .fits) (sym is) (node-laws .fit (a .bytes .now) (a .at) (λ i. omega (arith, s .shared-slice-known .given i)) (s .before .pre)))
 
 pub node-at-spec : {M : Type 1} → statement M
@@ -46,4 +53,6 @@ node-at-spec =
     number-at-requires-3
     add-number-at-3
     number-at-requires-4
+    add-number-at-4
+    number-at-requires-5
     returns)

@@ -1,4 +1,4 @@
--- `plans::read_node`: an entry of six bytes, and what `node_fault` says of it.
+-- `plans::read_node`: an entry of eight bytes, and what `node_fault` says of it.
 use mathlib.Core.Path.{refl, sym, ap, _∙_}
 use native.Mathlib.Omega.{arith}
 use lib.Dec.{eqb}
@@ -21,7 +21,7 @@ returns : tie.Need-returns
 returns c =
     let a = c .before .before .before .before .args in (
       bad-seen 1 _ (a .at) refl ∙ sym (piece-short node 1 (nodeFault (a .kinds) (a .place)) (a .bytes .now) (a .at) (omega arith)),
-      rw (c .none .ensures) (omega arith, (omega arith, (omega arith, omega arith))),
+      rw (c .none .ensures) (omega arith, (omega arith, (omega arith, (omega arith, omega arith)))),
     )
 
 node-at-requires : tie.Need-node-at-requires

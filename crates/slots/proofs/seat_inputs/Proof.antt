@@ -18,11 +18,11 @@ use Rattle.slots.proofs.seat_inputs.Tie as tie
 
 abbrev Inv-loop : tie.InvT-loop
 Inv-loop row k start places seats₀ takers₀ operator l₀ i₀ seats takers l i =
-    (i ≤ 2) × (length seats ≡ 136) × (length takers ≡ 50) × (l ≤ start + 17 * i)
+    (i ≤ 3) × (length seats ≡ 187) × (length takers ≡ 50) × (l ≤ start + 17 * i)
     × ((nodes : List Node) → getD nodes k noNode ≡ nodeOf row → Filling places nodes k 0 seats₀ takers₀ start → Filling places nodes k i seats takers l)
 
 abbrev μ-loop : tie.MeasureT-loop
-μ-loop row k start places seats₀ takers₀ operator l₀ i₀ seats takers l i = 2 - i
+μ-loop row k start places seats₀ takers₀ operator l₀ i₀ seats takers l i = 3 - i
 
 element-copy-out-operator : tie.Need-element-copy-out-operator Inv-loop μ-loop
 element-copy-out-operator c = search needs
@@ -135,7 +135,7 @@ loop-again c =
 returns : tie.Need-returns Inv-loop μ-loop
 returns c =
     let s = c .before .loop in
-    let done : s .i ≡ 2 = omega (arith, c .loop-test .left, s .inv .0) in
+    let done : s .i ≡ 3 = omega (arith, c .loop-test .left, s .inv .0) in
     λ nodes e f. filling-next _ nodes _ _ _ _ (rw done at (s .inv .4 nodes e f))
 
 pub seat-inputs-spec : {M : Type 1} → statement M

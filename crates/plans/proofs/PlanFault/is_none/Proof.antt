@@ -7,15 +7,15 @@ use types.Run.{OneOf, miss}
 use lib.Dec.{eqb}
 use Rattle.plans.specs.Faults.{numberOf}
 use Rattle.plans.specs.declared.PlanFault.{PlanFault}
-use Rattle.plans.specs.declared.PlanFault.the-variants.{None, CutShort, ClockCount, Ratio, LoggerCount, LoggerNumber, KindCount, KindNumber, NodeCount, Operator, Context, Input, BytesRemain}
+use Rattle.plans.specs.declared.PlanFault.the-variants.{None, CutShort, ClockCount, Ratio, LoggerCount, LoggerNumber, KindCount, KindNumber, NodeCount, Operator, Context, Input, ThirdInput, BytesRemain}
 use Rattle.plans.proofs.PlanFault.{the-type}
 use borrow.Author.Needs.{needs}
 use Rattle.plans.proofs.PlanFault.is_none.Statement.{statement}
 use Rattle.plans.proofs.PlanFault.is_none.Tie as tie
 
 -- none of the other variants is `None`
-others : (f : PlanFault) → OneOf (1 ∷ 2 ∷ 3 ∷ 4 ∷ 5 ∷ 6 ∷ 7 ∷ 8 ∷ 9 ∷ 10 ∷ 11 ∷ 12 ∷ []) (Declared.tagOf the-type f) → false ≡ eqb (numberOf f) 0
-others None h = absurd (miss (1 ∷ 2 ∷ 3 ∷ 4 ∷ 5 ∷ 6 ∷ 7 ∷ 8 ∷ 9 ∷ 10 ∷ 11 ∷ 12 ∷ []) 0 tt h)
+others : (f : PlanFault) → OneOf (1 ∷ 2 ∷ 3 ∷ 4 ∷ 5 ∷ 6 ∷ 7 ∷ 8 ∷ 9 ∷ 10 ∷ 11 ∷ 12 ∷ 13 ∷ []) (Declared.tagOf the-type f) → false ≡ eqb (numberOf f) 0
+others None h = absurd (miss (1 ∷ 2 ∷ 3 ∷ 4 ∷ 5 ∷ 6 ∷ 7 ∷ 8 ∷ 9 ∷ 10 ∷ 11 ∷ 12 ∷ 13 ∷ []) 0 tt h)
 others CutShort h = refl
 others ClockCount h = refl
 others Ratio h = refl
@@ -27,6 +27,7 @@ others NodeCount h = refl
 others Operator h = refl
 others Context h = refl
 others Input h = refl
+others ThirdInput h = refl
 others BytesRemain h = refl
 
 enum-told : tie.Need-enum-told
