@@ -14,7 +14,7 @@ ghost use mathlib.Core.List.{List};
 ghost use mathlib.Core.Logic.{_⊎_};
 ghost use mathlib.Core.Path.{_≡_};
 ghost use Prim.Native.Nat.{ℕ, _≤_, _<_};
-ghost use lib.ListN.{getD};
+ghost use lib.ListN.{getD, replicate};
 ghost use Rattle.sequences.specs.Choice.{pick};
 ghost use Rattle.passages.specs.Views.{Room};
 ghost use Rattle.emissions.specs.Emissions.{reached};
@@ -57,17 +57,16 @@ fn ended(run: detector::Run) -> Answer
     }
 }
 
-// For each kind how many places a list that takes it is given: the events are counted where they are few.
-fn places_for(kinds: &Places, count: usize) -> KindPlaces
-    requires { ⌜ (count ≤ 128) × ((i : ℕ) → i < count → getD (now kinds) i 0 < 33) ⌝ }
-    ensures { λ r. ⌜ Enough count (now (kinds .entry)) r ⌝ }
+// For each kind how many places a list that takes it is given, into an array that is lent with zeros in it: the events are counted where they are few.
+fn places_for(kinds: &Places, count: usize, places: &mut KindPlaces)
+    requires { ⌜ (count ≤ 128) × ((i : ℕ) → i < count → getD (now kinds) i 0 < 33) × (now places ≡ replicate 34 0) ⌝ }
+    ensures { λ _. ⌜ Enough count (now (kinds .entry)) (now (places .exit)) ⌝ }
 {
     if 64 <= count {
-        return [16u8; 34];
+        *places = [16u8; 34];
+        return;
     }
-    let mut places = [0u8; 34];
-    slots::count_kinds(kinds, count, &mut places);
-    places
+    slots::count_kinds(kinds, count, places);
 }
 
 // Whether so many places are enough: for lists, and for what is made.
@@ -133,7 +132,7 @@ fn run_small(
     )
 }
 
-// The same, where 296 and 40 are enough.
+// The same, where 200 and 72 are enough.
 fn run_half(
     numbers: &LoggerNumbers,
     seats: &Seats,
@@ -147,13 +146,13 @@ fn run_half(
     globals: &[u64],
     output: &mut [u8],
 ) -> detector::Run
-    requires { ⌜ (l ≤ 296) × (m ≤ 40) × SomeReady count (now kinds) (now takers) (now seats) l m
+    requires { ⌜ (l ≤ 200) × (m ≤ 72) × SomeReady count (now kinds) (now takers) (now seats) l m
         × Noticed count (now kinds) (now loggers) (now ticks) (now globals) ⌝ }
     ensures { λ r. ⌜ Runs (now (numbers .entry)) (now (takers .entry)) (now (seats .entry)) l m count (now (kinds .entry)) (now (loggers .entry))
         (now (ticks .entry)) (now (globals .entry)) (now (output .entry)) r (now (output .exit)) ⌝ }
 {
-    let mut lists = [[0u64; 3]; 296];
-    let mut made = [[0u64; 3]; 40];
+    let mut lists = [[0u64; 3]; 200];
+    let mut made = [[0u64; 3]; 72];
     detector::run_in(
         numbers,
         seats,
@@ -169,7 +168,7 @@ fn run_half(
     )
 }
 
-// The same, with 544 and 136, which are enough for 16 nodes; half of it is lent where that is.
+// The same, with 544 and 136, which are enough for 16 nodes; less is lent where that will do.
 fn run_large(
     numbers: &LoggerNumbers,
     seats: &Seats,
@@ -188,7 +187,7 @@ fn run_large(
     ensures { λ r. ⌜ Runs (now (numbers .entry)) (now (takers .entry)) (now (seats .entry)) l m count (now (kinds .entry)) (now (loggers .entry))
         (now (ticks .entry)) (now (globals .entry)) (now (output .entry)) r (now (output .exit)) ⌝ }
 {
-    if fits(l, 296, m, 40) {
+    if fits(l, 200, m, 72) {
         return run_half(
             numbers,
             seats,
@@ -220,7 +219,7 @@ fn run_large(
     )
 }
 
-// The same; 152 and 40 are lent where those are enough.
+// The same; 120 and 40 are lent where those are enough.
 fn run_middle(
     numbers: &LoggerNumbers,
     seats: &Seats,
@@ -239,8 +238,8 @@ fn run_middle(
     ensures { λ r. ⌜ Runs (now (numbers .entry)) (now (takers .entry)) (now (seats .entry)) l m count (now (kinds .entry)) (now (loggers .entry))
         (now (ticks .entry)) (now (globals .entry)) (now (output .entry)) r (now (output .exit)) ⌝ }
 {
-    if fits(l, 152, m, 40) {
-        let mut lists = [[0u64; 3]; 152];
+    if fits(l, 120, m, 40) {
+        let mut lists = [[0u64; 3]; 120];
         let mut made = [[0u64; 3]; 40];
         return detector::run_in(
             numbers,
@@ -288,7 +287,8 @@ fn run_in_rows(
     ensures { λ r. ⌜ RunsUnder (now (numbers .entry)) (now (nodes .entry)) n count (now («kind_places» .entry)) (now («logger_places» .entry))
         (now (ticks .entry)) (now (globals .entry)) (now (output .entry)) r (now (output .exit)) ⌝ }
 {
-    let places = places_for(kind_places, count);
+    let mut places = [0u8; 34];
+    places_for(kind_places, count, &mut places);
     let mut seats = [0u16; 187];
     let mut takers = [0u16; 50];
     slots::seat_nodes(nodes, n, &places, &mut seats, &mut takers);

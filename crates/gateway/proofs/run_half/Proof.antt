@@ -16,7 +16,7 @@ slice-aggregate-run-in-2 c = search needs
 
 run-in-requires : tie.Need-run-in-requires
 run-in-requires c κs =
-    let s = c .before .before .before .before .before .before in ((s .pre .2 .0, s .pre .2 .1, ready-in (s .pre .2 .2) 296 40 (s .pre .0) (s .pre .1)), clear 296, s .pre .3)
+    let s = c .before .before .before .before .before .before in ((s .pre .2 .0, s .pre .2 .1, ready-in (s .pre .2 .2) 200 72 (s .pre .0) (s .pre .1)), clear 200, s .pre .3)
 
 same-length : tie.Need-same-length
 same-length c = search needs
@@ -25,7 +25,7 @@ returns : tie.Need-returns
 returns c =
     let ran = c .before .before .before .before in
     let s = ran .before .before .before .before .before .before .before in
-    λ p places same seated. ran .run-in .ensures p places same (ready-in seated 296 40 (s .pre .0) (s .pre .1))
+    λ p places same seated. ran .run-in .ensures p places same (ready-in seated 200 72 (s .pre .0) (s .pre .1))
 
 pub run-half-spec : {M : Type 1} → statement M
 run-half-spec =

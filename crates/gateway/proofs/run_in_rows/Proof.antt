@@ -53,11 +53,11 @@ run-small-requires : tie.Need-run-small-requires
 run-small-requires c κs =
     let yes = c .before .before .before in
     let p = yes .before .before in
-    let s = p .before .before .before .before .before .before .before .before .before .before .before in
+    let s = p .before .before .before .before .before .before .before .before .before .before .before .before in
     let q = p .before .before .before .before .before .before .before .places-for in
-    let all = p .seat-made .ensures (q .result) (p .before .before .before .seat-nodes .ensures) in
+    let all = p .seat-made .ensures (q .last .1 .1 .0) (p .before .before .before .seat-nodes .ensures) in
     let enough = yes .before .fits2 .ensures .0 (yes .if1 .taken) in
-    (enough .0, enough .1, (_, q .result, ready _ _ _ _ _ all _ _ refl refl _ _ (q .ensures)), s .pre .1)
+    (enough .0, enough .1, (_, q .last .1 .1 .0, ready _ _ _ _ _ all _ _ refl refl _ _ (q .ensures)), s .pre .1)
 
 same-length : tie.Need-same-length
 same-length c = search needs
@@ -66,19 +66,18 @@ returns : tie.Need-returns
 returns c =
     let ran = c .before .before in
     let p = ran .before .before .before .before .before .before in
-    let s = p .before .before .before .before .before .before .before .before .before .before .before in
     let q = p .before .before .before .before .before .before .before .places-for in
-    let all = p .seat-made .ensures (q .result) (p .before .before .before .seat-nodes .ensures) in
-    λ plan same rows. ran .run-small .ensures plan (q .result) same (ready-rows _ _ _ _ _ all _ _ refl refl _ _ (q .ensures) _ rows)
+    let all = p .seat-made .ensures (q .last .1 .1 .0) (p .before .before .before .seat-nodes .ensures) in
+    λ plan same rows. ran .run-small .ensures plan (q .last .1 .1 .0) same (ready-rows _ _ _ _ _ all _ _ refl refl _ _ (q .ensures) _ rows)
 
 run-middle-requires : tie.Need-run-middle-requires
 run-middle-requires c κs =
     let p = c .before .before .before .before .before in
-    let s = p .before .before .before .before .before .before .before .before .before .before .before in
+    let s = p .before .before .before .before .before .before .before .before .before .before .before .before in
     let q = p .before .before .before .before .before .before .before .places-for in
-    let all = p .seat-made .ensures (q .result) (p .before .before .before .seat-nodes .ensures) in
+    let all = p .seat-made .ensures (q .last .1 .1 .0) (p .before .before .before .seat-nodes .ensures) in
     let enough = most _ _ _ _ _ all _ _ refl refl _ _ (q .ensures) in
-    (enough .0, enough .1, (_, q .result, ready _ _ _ _ _ all _ _ refl refl _ _ (q .ensures)), s .pre .1)
+    (enough .0, enough .1, (_, q .last .1 .1 .0, ready _ _ _ _ _ all _ _ refl refl _ _ (q .ensures)), s .pre .1)
 
 same-length-2 : tie.Need-same-length-2
 same-length-2 c = search needs
@@ -87,10 +86,9 @@ returns-2 : tie.Need-returns-2
 returns-2 c =
     let ran = c .before .before in
     let p = ran .before .before .before .before .before .before in
-    let s = p .before .before .before .before .before .before .before .before .before .before .before in
     let q = p .before .before .before .before .before .before .before .places-for in
-    let all = p .seat-made .ensures (q .result) (p .before .before .before .seat-nodes .ensures) in
-    λ plan same rows. ran .run-middle .ensures plan (q .result) same (ready-rows _ _ _ _ _ all _ _ refl refl _ _ (q .ensures) _ rows)
+    let all = p .seat-made .ensures (q .last .1 .1 .0) (p .before .before .before .seat-nodes .ensures) in
+    λ plan same rows. ran .run-middle .ensures plan (q .last .1 .1 .0) same (ready-rows _ _ _ _ _ all _ _ refl refl _ _ (q .ensures) _ rows)
 
 pub run-in-rows-spec : {M : Type 1} → statement M
 run-in-rows-spec =
