@@ -1,56 +1,62 @@
--- The table of codes says what document 01 says of each operator.
+-- The rows of codes say what document 01 says of each operator.
 use mathlib.Core.List.{List, [], _∷_, map}
 use mathlib.Core.Path.{_≡_, refl, sym, ap, _∙_}
 use mathlib.Core.Bool.{false}
-use Prim.Native.Nat.{ℕ, zero, suc, _-_, _≤_, _<_}
+use Prim.Native.Nat.{ℕ, zero, suc, _<_}
 use native.Mathlib.Omega.{arith}
-use lib.ListN.{getD, length, List·getD-eq-default}
+use lib.ListN.{getD, length}
 use Rattle.sequences.proofs.Parts.{getD-map}
 use Rattle.arrivals.specs.Meetings.{Action, nothing, actionFrom, mayWait}
-use Rattle.operators.specs.Table.{actionOf, operatorOf, seq, table}
+use Rattle.operators.specs.Table.{actionOf, operatorOf, table}
 
 -- operators 1 to 6 are the six rows, in order
 pub operators-are : map operatorOf (1 ∷ 2 ∷ 3 ∷ 4 ∷ 5 ∷ 6 ∷ []) ≡ table
 unfolding operatorOf
 operators-are = refl
 
--- the codes of the code's table
-abbrev rows : List (List ℕ)
-rows = (0 ∷ 0 ∷ 7 ∷ []) ∷ (3 ∷ 3 ∷ 7 ∷ []) ∷ (1 ∷ 2 ∷ 7 ∷ []) ∷ (1 ∷ 2 ∷ 4 ∷ []) ∷ (1 ∷ 1 ∷ 5 ∷ []) ∷ (1 ∷ 1 ∷ 6 ∷ []) ∷ []
+-- ---- the codes of a row say what the operator's row says of each input
+abbrev Says : List ℕ → ℕ → Type 0
+Says codes operator = (length codes ≡ 3) × ((input : ℕ) → input < 3 → actionFrom (getD codes input 0) ≡ actionOf operator input)
 
-pub rows-say : map (map actionFrom) rows ≡ table
-unfolding actionFrom
-rows-say = refl
-
--- ---- the place of an operator's row
-pub place-none : (operator : ℕ) → operator ≡ 0 → (2 < 6) × (getD table 2 seq ≡ operatorOf operator)
-unfolding operatorOf
-place-none operator e = (omega arith, rw e)
-
-pub place-row : (operator : ℕ) → (operator ≡ 0 → ⊥) → operator < 7 → (operator - 1 < 6) × (getD table (operator - 1) seq ≡ operatorOf operator)
-unfolding operatorOf
-place-row zero n h = absurd (n refl)
-place-row (suc k) n h = let e : suc k - 1 ≡ k = omega arith in (omega arith, rw e)
-
-pub place-past : (operator : ℕ) → 7 ≤ operator → (2 < 6) × (getD table 2 seq ≡ operatorOf operator)
-unfolding operatorOf
-place-past operator h = (omega arith, (let past : length (seq ∷ table) ≤ operator = h in sym (List·getD-eq-default (seq ∷ table) seq past)))
-
--- so a code of a row says what the operator's row says of the input
-row-length : (k : ℕ) → k < 6 → length (getD rows k []) ≡ 3
-row-length zero h = refl
-row-length (suc zero) h = refl
-row-length (suc (suc zero)) h = refl
-row-length (suc (suc (suc zero))) h = refl
-row-length (suc (suc (suc (suc zero)))) h = refl
-row-length (suc (suc (suc (suc (suc zero))))) h = refl
-row-length (suc (suc (suc (suc (suc (suc k)))))) h = absurd (omega arith)
-
-pub code-is : (operator k input : ℕ) → (k < 6) × (getD table k seq ≡ operatorOf operator) → input < 3 → actionFrom (getD (getD rows k []) input 0) ≡ actionOf operator input
+row-says : (codes : List ℕ) (operator : ℕ) → length codes ≡ 3 → map actionFrom codes ≡ operatorOf operator → Says codes operator
 unfolding actionOf
-code-is operator k input (h, e) i =
-    sym (getD-map actionFrom (getD rows k []) input 0 nothing (omega (arith, row-length k h)))
-    ∙ ap (λ (l : List Action). getD l input nothing) (sym (getD-map (map actionFrom) rows k [] seq h) ∙ ap (λ (t : List (List Action)). getD t k seq) rows-say ∙ e)
+row-says codes operator three same =
+    (three, λ input h. sym (getD-map actionFrom codes input 0 nothing (omega arith)) ∙ ap (λ (l : List Action). getD l input nothing) same)
+
+pub or-says : Says (0 ∷ 0 ∷ 7 ∷ []) 1
+unfolding actionFrom operatorOf
+or-says = row-says (0 ∷ 0 ∷ 7 ∷ []) 1 refl refl
+
+pub and-says : Says (3 ∷ 3 ∷ 7 ∷ []) 2
+unfolding actionFrom operatorOf
+and-says = row-says (3 ∷ 3 ∷ 7 ∷ []) 2 refl refl
+
+pub aperiodic-says : Says (1 ∷ 2 ∷ 4 ∷ []) 4
+unfolding actionFrom operatorOf
+aperiodic-says = row-says (1 ∷ 2 ∷ 4 ∷ []) 4 refl refl
+
+pub accumulated-says : Says (1 ∷ 1 ∷ 5 ∷ []) 5
+unfolding actionFrom operatorOf
+accumulated-says = row-says (1 ∷ 1 ∷ 5 ∷ []) 5 refl refl
+
+pub absence-says : Says (1 ∷ 1 ∷ 6 ∷ []) 6
+unfolding actionFrom operatorOf
+absence-says = row-says (1 ∷ 1 ∷ 6 ∷ []) 6 refl refl
+
+-- 3, and any other number
+seq-row : (o : ℕ) → (o ≡ 1 → ⊥) → (o ≡ 2 → ⊥) → (o ≡ 4 → ⊥) → (o ≡ 5 → ⊥) → (o ≡ 6 → ⊥) → map actionFrom (1 ∷ 2 ∷ 7 ∷ []) ≡ operatorOf o
+unfolding actionFrom operatorOf
+seq-row zero n1 n2 n4 n5 n6 = refl
+seq-row (suc zero) n1 n2 n4 n5 n6 = absurd (n1 refl)
+seq-row (suc (suc zero)) n1 n2 n4 n5 n6 = absurd (n2 refl)
+seq-row (suc (suc (suc zero))) n1 n2 n4 n5 n6 = refl
+seq-row (suc (suc (suc (suc zero)))) n1 n2 n4 n5 n6 = absurd (n4 refl)
+seq-row (suc (suc (suc (suc (suc zero))))) n1 n2 n4 n5 n6 = absurd (n5 refl)
+seq-row (suc (suc (suc (suc (suc (suc zero)))))) n1 n2 n4 n5 n6 = absurd (n6 refl)
+seq-row (suc (suc (suc (suc (suc (suc (suc n))))))) n1 n2 n4 n5 n6 = refl
+
+pub seq-says : (operator : ℕ) → (operator ≡ 1 → ⊥) → (operator ≡ 2 → ⊥) → (operator ≡ 4 → ⊥) → (operator ≡ 5 → ⊥) → (operator ≡ 6 → ⊥) → Says (1 ∷ 2 ∷ 7 ∷ []) operator
+seq-says operator n1 n2 n4 n5 n6 = row-says (1 ∷ 2 ∷ 7 ∷ []) operator refl (seq-row operator n1 n2 n4 n5 n6)
 
 -- ---- what comes by the third input never waits, by any operator
 pub third-never : (operator : ℕ) → mayWait (actionOf operator 2) ≡ false

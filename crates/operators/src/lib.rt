@@ -23,49 +23,33 @@ ghost use Rattle.occurrences.specs.Packed.{Notes, Stand, Stands};
 ghost use Rattle.plans.specs.declared.Node.{Node};
 ghost use Rattle.emissions.specs.Emissions.{InOutput, bytesIn, findingsIn};
 ghost use Rattle.arrivals.specs.Meetings.{Arrival, actionFrom, settingOf};
-ghost use Rattle.operators.specs.Table.{actionOf, operatorOf, seq, table};
+ghost use Rattle.operators.specs.Table.{actionOf};
 ghost use Rattle.operators.specs.Turns.{Turned, arrives, inputTurn};
 ghost use Rattle.operators.specs.Views.{AllOffered, Half, Halves, HoldsTurned, Offered, Spares, Takes};
 
 // ---- the table
 
-// What an arrival by each input does, left first: operators 1 to 6.
-const OPERATORS: [[u16; 3]; 6] = [
-    // OR
-    [PASS, PASS, NOTHING],
-    // AND
-    [MEET_AND_WAIT, MEET_AND_WAIT, NOTHING],
-    // SEQ
-    [WAIT, MEET, NOTHING],
-    // aperiodic
-    [WAIT, MEET, DELETE],
-    // accumulated
-    [WAIT, WAIT, ACCUMULATE],
-    // absence
-    [WAIT, WAIT, ABSENT],
-];
+// What an arrival by each input does, left first.
+pub type Actions = [u16; 3];
 
-// The place of an operator's row; any other number is read as SEQ.
-fn place_of(operator: u16) -> usize
-    ensures { λ k. ⌜ (k < 6) × (getD table k seq ≡ operatorOf operator) ⌝ }
+// The row of an operator, 1 to 6; any other number is read as SEQ.
+pub fn actions_of(operator: u16) -> Actions
+    ensures { λ r. ⌜ (length r ≡ 3) × ((input : ℕ) → input < 3 → actionFrom (getD r input 0) ≡ actionOf operator input) ⌝ }
 {
-    if operator == 0 {
-        2
-    } else if operator < 7 {
-        operator as usize - 1
-    } else {
-        2
+    match operator {
+        // OR
+        1 => [PASS, PASS, NOTHING],
+        // AND
+        2 => [MEET_AND_WAIT, MEET_AND_WAIT, NOTHING],
+        // aperiodic
+        4 => [WAIT, MEET, DELETE],
+        // accumulated
+        5 => [WAIT, WAIT, ACCUMULATE],
+        // absence
+        6 => [WAIT, WAIT, ABSENT],
+        // SEQ
+        _ => [WAIT, MEET, NOTHING],
     }
-}
-
-// What an arrival by an input does.
-pub fn action_of(operator: u16, input: usize) -> u16
-    requires { ⌜ input < 3 ⌝ }
-    ensures { λ r. ⌜ actionFrom r ≡ actionOf operator input ⌝ }
-{
-    let k = place_of(operator);
-    let row = OPERATORS[k];
-    row[input]
 }
 
 // ---- arrivals

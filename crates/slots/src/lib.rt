@@ -127,12 +127,12 @@ fn seat_inputs(
         → Filling (now (places .entry)) nodes k 0 (now (seats .entry)) (now (takers .entry)) start
         → Filling (now (places .entry)) nodes (k + 1) 0 (now (seats .exit)) (now (takers .exit)) r) ⌝ }
 {
-    let operator = row[plans::OPERATOR];
+    let actions = operators::actions_of(row[plans::OPERATOR]);
     let mut l = start;
     let mut i: usize = 0;
     while i < 3 {
         let at = SEAT * k + INPUT * i;
-        let action = operators::action_of(operator, i);
+        let action = actions[i];
         let slot = slot_of(row[plans::INPUTS + i], k);
         let q = slot as usize;
         takers[q] = takers[q] | 1u16 << k;

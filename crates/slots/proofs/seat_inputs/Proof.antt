@@ -17,12 +17,12 @@ use Rattle.slots.proofs.seat_inputs.Statement.{statement}
 use Rattle.slots.proofs.seat_inputs.Tie as tie
 
 abbrev Inv-loop : tie.InvT-loop
-Inv-loop row k start places seats₀ takers₀ operator l₀ i₀ seats takers l i =
+Inv-loop row k start places seats₀ takers₀ actions l₀ i₀ seats takers l i =
     (i ≤ 3) × (length seats ≡ 187) × (length takers ≡ 50) × (l ≤ start + 17 * i)
     × ((nodes : List Node) → getD nodes k noNode ≡ nodeOf row → Filling places nodes k 0 seats₀ takers₀ start → Filling places nodes k i seats takers l)
 
 abbrev μ-loop : tie.MeasureT-loop
-μ-loop row k start places seats₀ takers₀ operator l₀ i₀ seats takers l i = 3 - i
+μ-loop row k start places seats₀ takers₀ actions l₀ i₀ seats takers l i = 3 - i
 
 element-copy-out-operator : tie.Need-element-copy-out-operator Inv-loop μ-loop
 element-copy-out-operator c = search needs
