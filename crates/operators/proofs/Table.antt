@@ -23,25 +23,25 @@ unfolding actionOf
 row-says codes operator three same =
     (three, λ input h. sym (getD-map actionFrom codes input 0 nothing (omega arith)) ∙ ap (λ (l : List Action). getD l input nothing) same)
 
-pub or-says : Says (0 ∷ 0 ∷ 7 ∷ []) 1
+pub or-says : (operator : ℕ) → operator ≡ 1 → Says (0 ∷ 0 ∷ 7 ∷ []) operator
 unfolding actionFrom operatorOf
-or-says = row-says (0 ∷ 0 ∷ 7 ∷ []) 1 refl refl
+or-says operator e = row-says (0 ∷ 0 ∷ 7 ∷ []) operator refl (rw e)
 
-pub and-says : Says (3 ∷ 3 ∷ 7 ∷ []) 2
+pub and-says : (operator : ℕ) → operator ≡ 2 → Says (3 ∷ 3 ∷ 7 ∷ []) operator
 unfolding actionFrom operatorOf
-and-says = row-says (3 ∷ 3 ∷ 7 ∷ []) 2 refl refl
+and-says operator e = row-says (3 ∷ 3 ∷ 7 ∷ []) operator refl (rw e)
 
-pub aperiodic-says : Says (1 ∷ 2 ∷ 4 ∷ []) 4
+pub aperiodic-says : (operator : ℕ) → operator ≡ 4 → Says (1 ∷ 2 ∷ 4 ∷ []) operator
 unfolding actionFrom operatorOf
-aperiodic-says = row-says (1 ∷ 2 ∷ 4 ∷ []) 4 refl refl
+aperiodic-says operator e = row-says (1 ∷ 2 ∷ 4 ∷ []) operator refl (rw e)
 
-pub accumulated-says : Says (1 ∷ 1 ∷ 5 ∷ []) 5
+pub accumulated-says : (operator : ℕ) → operator ≡ 5 → Says (1 ∷ 1 ∷ 5 ∷ []) operator
 unfolding actionFrom operatorOf
-accumulated-says = row-says (1 ∷ 1 ∷ 5 ∷ []) 5 refl refl
+accumulated-says operator e = row-says (1 ∷ 1 ∷ 5 ∷ []) operator refl (rw e)
 
-pub absence-says : Says (1 ∷ 1 ∷ 6 ∷ []) 6
+pub absence-says : (operator : ℕ) → operator ≡ 6 → Says (1 ∷ 1 ∷ 6 ∷ []) operator
 unfolding actionFrom operatorOf
-absence-says = row-says (1 ∷ 1 ∷ 6 ∷ []) 6 refl refl
+absence-says operator e = row-says (1 ∷ 1 ∷ 6 ∷ []) operator refl (rw e)
 
 -- 3, and any other number
 seq-row : (o : ℕ) → (o ≡ 1 → ⊥) → (o ≡ 2 → ⊥) → (o ≡ 4 → ⊥) → (o ≡ 5 → ⊥) → (o ≡ 6 → ⊥) → map actionFrom (1 ∷ 2 ∷ 7 ∷ []) ≡ operatorOf o

@@ -5,19 +5,19 @@ use Rattle.operators.proofs.actions_of.Statement.{statement}
 use Rattle.operators.proofs.actions_of.Tie as tie
 
 returns : tie.Need-returns
-returns c = rw (c .match .keys1) or-says
+returns c = or-says _ (c .match .keys1)
 
 returns-2 : tie.Need-returns-2
-returns-2 c = rw (c .match .keys2) and-says
+returns-2 c = and-says _ (c .match .keys2)
 
 returns-3 : tie.Need-returns-3
-returns-3 c = rw (c .match .keys3) aperiodic-says
+returns-3 c = aperiodic-says _ (c .match .keys3)
 
 returns-4 : tie.Need-returns-4
-returns-4 c = rw (c .match .keys4) accumulated-says
+returns-4 c = accumulated-says _ (c .match .keys4)
 
 returns-5 : tie.Need-returns-5
-returns-5 c = rw (c .match .keys5) absence-says
+returns-5 c = absence-says _ (c .match .keys5)
 
 returns-6 : tie.Need-returns-6
 returns-6 c =

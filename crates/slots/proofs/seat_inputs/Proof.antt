@@ -24,8 +24,11 @@ Inv-loop row k start places seats₀ takers₀ actions l₀ i₀ seats takers l 
 abbrev μ-loop : tie.MeasureT-loop
 μ-loop row k start places seats₀ takers₀ actions l₀ i₀ seats takers l i = 3 - i
 
-element-copy-out-operator : tie.Need-element-copy-out-operator Inv-loop μ-loop
-element-copy-out-operator c = search needs
+element-copy-out-actions-of : tie.Need-element-copy-out-actions-of Inv-loop μ-loop
+element-copy-out-actions-of c = search needs
+
+actions-of-requires : tie.Need-actions-of-requires Inv-loop μ-loop
+actions-of-requires c κs = search needs
 
 loop-holds : tie.Need-loop-holds Inv-loop μ-loop
 loop-holds c = (search needs, search needs, search needs, search needs, λ nodes e f. f)
@@ -39,8 +42,11 @@ mul-at-2 c = search needs
 add-at : tie.Need-add-at Inv-loop μ-loop
 add-at c = search needs
 
-action-of-requires : tie.Need-action-of-requires Inv-loop μ-loop
-action-of-requires c κs = search needs
+mul-action : tie.Need-mul-action Inv-loop μ-loop
+mul-action c = search needs
+
+array-read-action : tie.Need-array-read-action Inv-loop μ-loop
+array-read-action c = search needs
 
 add-slot-of : tie.Need-add-slot-of Inv-loop μ-loop
 add-slot-of c = search needs
@@ -119,15 +125,16 @@ loop-less c = search needs
 
 loop-again : tie.Need-loop-again Inv-loop μ-loop
 loop-again c =
-    let t = c .before .before .before .before .before in
+    let t = c .before .before .before .before in
     let s = t .before .loop in
-    let args = t .before .before .before .args in (
+    let before = t .before .before in
+    let args = before .before .before .args in (
       search needs,
       simp length-set (s .inv .1),
       simp length-set (s .inv .2),
       search needs,
       λ nodes e f. filling-turn _ nodes _ _ _ _ _ _ _ _ _ (s .inv .4 nodes e f) (search needs) (search needs)
-          (rw e (c .before .before .before .before .action-of .ensures))
+          (rw e (before .actions-of .ensures .1 (s .i) (search needs)))
           (c .before .before .slot-of .ensures ∙ rw e (ap (slotAt (args .k)) (node-input (args .row .now) (s .i) (search needs))))
           (c .room-of .ensures .0) (one-shl (args .k) (search needs)),
     )
@@ -144,12 +151,14 @@ seat-inputs-spec =
     (tie.spec
     Inv-loop
     μ-loop
-    element-copy-out-operator
+    element-copy-out-actions-of
+    actions-of-requires
     loop-holds
     mul-at
     mul-at-2
     add-at
-    action-of-requires
+    mul-action
+    array-read-action
     add-slot-of
     mul-slot-of
     element-copy-out-slot-of
