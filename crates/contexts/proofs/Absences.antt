@@ -1,15 +1,15 @@
 -- Which lefts no waiting middle blocks.
 use mathlib.Core.Bool.{Bool, true, false, not, _&&_}
-use mathlib.Core.List.{List, map, zipWith}
-use mathlib.Core.Path.{_≡_, sym, ap, _∙_}
+use mathlib.Core.List.{List, [], _∷_, map}
+use mathlib.Core.Path.{_≡_, refl, sym, ap, _∙_}
 use Prim.Native.Nat.{ℕ, _+_, _≤_, _<_}
 use native.Mathlib.Numerals.{add-one}
 use borrow.Author.Tests.{not-true, not-false}
-use lib.ListN.{drop, getD, length, drop-of-length-le}
-use lib.Seq.{drop-cons}
+use native.Mathlib.Omega.{arith}
+use lib.ListN.{drop, getD, length, take, drop-of-length-le}
+use lib.Seq.{drop-cons, take-all}
 use Rattle.sequences.specs.Marks.{padded}
 use Rattle.sequences.specs.Select.{somePasses}
-use Rattle.sequences.proofs.Marks.{zip-test}
 use Rattle.timestamps.specs.Order.{Clocks}
 use Rattle.occurrences.specs.declared.Occurrence.{Occurrence}
 use Rattle.occurrences.specs.Occurrences.{isBefore, isWeaklyBefore}
@@ -39,14 +39,27 @@ module _ (clocks : Clocks) (x z y : Occurrence) (r : Bool) (e : r ≡ isWeaklyBe
   unfolding blocks
   blocked-by h s f = rw (← e, not-false r h) f
 
--- where a left is before the third arrival
-pub free-by : (is : Bool) → not is ≡ false → (r x : Bool) → r ≡ x → not r ≡ (is && not x)
-free-by is h r x e = rw (not-false is h, e)
+-- ---- before the third arrival, and not blocked
+module _ (clocks : Clocks) (x z : Occurrence) (middles : List Occurrence) (is : Bool) (e : is ≡ isBefore clocks x z) where
+  pub not-free : not is ≡ true → false ≡ (isBefore clocks x z && not (somePasses (blocks clocks x z) middles))
+  not-free h = rw (← e, not-true is h)
 
--- those before it that are not blocked are the candidates
-pub absence-is : (clocks : Clocks) (lefts middles : List Occurrence) (o : Occurrence) (m : List Bool) → m ≡ seqCandidates clocks lefts o
-    → padded 16 (zipWith (λ w c. c && not (somePasses (blocks clocks w o) middles)) lefts m) ≡ absenceCandidates clocks lefts middles o
-unfolding absenceCandidates seqCandidates
-absence-is clocks lefts middles o m e =
-    ap (λ k. padded 16 (zipWith (λ w c. c && not (somePasses (blocks clocks w o) middles)) lefts k)) e
-    ∙ ap (padded 16) (zip-test (λ w c. c && not (somePasses (blocks clocks w o) middles)) (λ w. isBefore clocks w o) 16 lefts)
+  pub free-by : not is ≡ false → (r : Bool) → r ≡ somePasses (blocks clocks x z) middles → not r ≡ (isBefore clocks x z && not (somePasses (blocks clocks x z) middles))
+  free-by h r f = rw (← e, not-false is h, f)
+
+-- ---- for callers: without middles that block, those before it; with all of them, the candidates of absence
+module _ (clocks : Clocks) (lefts middles : List Occurrence) (o : Occurrence) where
+  pub none-block : absenceCandidates clocks lefts (take 0 middles) o ≡ seqCandidates clocks lefts o
+  unfolding absenceCandidates seqCandidates somePasses
+  none-block = ap (padded 16) (each lefts)
+    where
+      and-true : (b : Bool) → (b && true) ≡ b
+      and-true true = refl
+      and-true false = refl
+
+      each : (l : List Occurrence) → map (λ w. isBefore clocks w o && true) l ≡ map (λ w. isBefore clocks w o) l
+      each [] = refl
+      each (w ∷ l) = rw (and-true (isBefore clocks w o)) (ap (λ r. isBefore clocks w o ∷ r) (each l))
+
+  pub all-block : (n : ℕ) → n ≡ length middles → absenceCandidates clocks lefts (take n middles) o ≡ absenceCandidates clocks lefts middles o
+  all-block n e = ap (λ l. absenceCandidates clocks lefts l o) (take-all n middles (omega arith))

@@ -7,7 +7,7 @@ ghost use mathlib.Core.List.{List};
 ghost use mathlib.Core.Path.{_≡_};
 ghost use Prim.Native.Nat.{_<_, _≤_};
 ghost use lib.Dec.{eqb};
-ghost use lib.ListN.{getD, length};
+ghost use lib.ListN.{getD, length, take};
 ghost use Rattle.sequences.specs.Loops.{fold};
 ghost use Rattle.sequences.specs.Marks.{marked};
 ghost use Rattle.sequences.specs.Select.{somePasses};
@@ -167,26 +167,27 @@ fn is_blocked_by(
     occurrences::weakly_before(own, middle, first, o, ticks, globals)
 }
 
-// Whether a waiting middle blocks it.
+// Whether one of the first so many waiting middles blocks it; with the lowest global ticks as above.
 fn is_blocked(
+    low: GlobalTick,
     left: &Packed,
     middles: &[Packed],
+    blockers: usize,
     first: GlobalTick,
     o: &Packed,
     ticks: &[u64],
     globals: &[u64],
 ) -> bool
-    requires { ⌜ Within (now ticks) (now globals) (now left) × Arrives (now ticks) (now globals) (now middles) (now o) ⌝ }
+    requires { ⌜ Within (now ticks) (now globals) (now left) × Arrives (now ticks) (now globals) (now middles) (now o)
+        × (blockers ≤ listOf (now middles) .len) ⌝ }
     ensures { λ r. ⌜ ((t : Notes (now (ticks .entry)) (now (globals .entry))) (l : List Occurrence) (x z : Occurrence)
-        → LowestOf (now (globals .entry)) (now (o .entry)) (first .0)
+        → LowestOf (now (globals .entry)) (now (left .entry)) (low .0) → LowestOf (now (globals .entry)) (now (o .entry)) (first .0)
         → Waits t (now (middles .entry)) l → Stands t (now (left .entry)) x → Stands t (now (o .entry)) z
-        → r ≡ somePasses (blocks (t .clocks) x z) l) ⌝ }
+        → r ≡ somePasses (blocks (t .clocks) x z) (take blockers l)) ⌝ }
 {
-    let low = occurrences::lowest(left, globals);
     let waiting = waiting_lists::list_of(middles);
-    let n = waiting.len;
     let mut j: usize = 0;
-    while j < n {
+    while j < blockers {
         let place = waiting_lists::place_at(waiting, j);
         if is_blocked_by(low, left, &middles[place], first, o, ticks, globals) {
             return true;
@@ -196,43 +197,45 @@ fn is_blocked(
     false
 }
 
-// Whether a left, where it is before the third arrival, is not blocked.
+// Whether a left is before the third arrival, and none of them blocks it.
 fn is_free(
-    is: bool,
     left: &Packed,
     middles: &[Packed],
+    blockers: usize,
     first: GlobalTick,
     o: &Packed,
     ticks: &[u64],
     globals: &[u64],
 ) -> bool
-    requires { ⌜ Within (now ticks) (now globals) (now left) × Arrives (now ticks) (now globals) (now middles) (now o) ⌝ }
+    requires { ⌜ Within (now ticks) (now globals) (now left) × Arrives (now ticks) (now globals) (now middles) (now o)
+        × (blockers ≤ listOf (now middles) .len) ⌝ }
     ensures { λ r. ⌜ ((t : Notes (now (ticks .entry)) (now (globals .entry))) (l : List Occurrence) (x z : Occurrence)
         → LowestOf (now (globals .entry)) (now (o .entry)) (first .0)
         → Waits t (now (middles .entry)) l → Stands t (now (left .entry)) x → Stands t (now (o .entry)) z
-        → r ≡ (is && not (somePasses (blocks (t .clocks) x z) l))) ⌝ }
+        → r ≡ (isBefore (t .clocks) x z && not (somePasses (blocks (t .clocks) x z) (take blockers l)))) ⌝ }
 {
-    if !is {
-        false
-    } else {
-        !is_blocked(left, middles, first, o, ticks, globals)
+    let low = occurrences::lowest(left, globals);
+    let word = occurrences::order(low, left, first, o, ticks, globals);
+    if !word.is(Order::Before) {
+        return false;
     }
+    !is_blocked(low, left, middles, blockers, first, o, ticks, globals)
 }
 
-// The lefts before the third arrival that no waiting middle blocks.
+// The lefts before the arrival that none of the first so many middles blocks: with none, all that are before it.
 pub fn unblocked(
     lefts: &[Packed],
     middles: &[Packed],
+    blockers: usize,
     o: &Packed,
     ticks: &[u64],
     globals: &[u64],
 ) -> u64
-    requires { ⌜ Beside (now ticks) (now globals) (now lefts) (now middles) (now o) ⌝ }
+    requires { ⌜ Beside (now ticks) (now globals) (now lefts) (now middles) (now o) × (blockers ≤ listOf (now middles) .len) ⌝ }
     ensures { λ r. ⌜ ((t : Notes (now (ticks .entry)) (now (globals .entry))) (k l : List Occurrence) (x : Occurrence)
         → Waits t (now (lefts .entry)) k → Waits t (now (middles .entry)) l → Stands t (now (o .entry)) x
-        → marksOf r ≡ absenceCandidates (t .clocks) k l x) ⌝ }
+        → marksOf r ≡ absenceCandidates (t .clocks) k (take blockers l) x) ⌝ }
 {
-    let earlier = before_arrival(lefts, o, ticks, globals);
     let first = occurrences::lowest(o, globals);
     let waiting = waiting_lists::list_of(lefts);
     let n = waiting.len;
@@ -240,8 +243,7 @@ pub fn unblocked(
     let mut i: usize = 0;
     while i < n {
         let place = waiting_lists::place_at(waiting, i);
-        let is = waiting_lists::is_marked(earlier, i);
-        let free = is_free(is, &lefts[place], middles, first, o, ticks, globals);
+        let free = is_free(&lefts[place], middles, blockers, first, o, ticks, globals);
         marks = waiting_lists::with_mark(marks, i, free);
         i = i + 1;
     }
