@@ -2,7 +2,7 @@
 use mathlib.Core.Bool.{Bool, true, false}
 use mathlib.Core.List.{List, [], _∷_}
 use mathlib.Core.Path.{_≡_, refl, _∙_}
-use Prim.Native.Nat.{ℕ, _<_}
+use Prim.Native.Nat.{ℕ, suc, _≤_, _<_}
 use native.Mathlib.Decide.{ℕ-discrete}
 use native.Mathlib.Omega.{arith}
 use borrow.Author.Tests.{ne-eqb}
@@ -13,11 +13,10 @@ use Rattle.sequences.specs.Select.{somePasses}
 use Rattle.sequences.proofs.Marks.{marked-padded}
 use Rattle.timestamps.specs.Order.{Clocks}
 use Rattle.occurrences.specs.declared.Occurrence.{Occurrence}
-use Rattle.contexts.specs.Choice.{absenceCandidates, andCandidates, chosen, seqCandidates}
-use Rattle.contexts.specs.Made.{accumulatedOf, madeOf}
-use Rattle.contexts.specs.Table.{Afterwards, joins, consumed, Context}
-use Rattle.contexts.proofs.Findings.{none-made}
-use Rattle.arrivals.specs.Meetings.{Action, pass, wait, meet, meetAndWait, delete, accumulate, absent, nothing, actionFrom, candidatesOf, clearedBy, joinsBy, madeBy, mayWait, removedBy, waitsBy}
+use Rattle.contexts.specs.Choice.{absenceCandidates, andCandidates, seqCandidates}
+use Rattle.contexts.specs.Table.{Afterwards, joins, consumed}
+use Rattle.arrivals.specs.Meetings.{Action, pass, wait, meet, meetAndWait, delete, accumulate, absent, nothing, actionFrom, candidatesOf, joinsBy, mayWait, removedBy, waitsBy}
+use Rattle.arrivals.specs.Views.{Looks, lookedFor}
 
 -- no marks, nobody marked
 pub none-marked : (l : List Occurrence) → marked l (padded 16 []) ≡ []
@@ -38,10 +37,6 @@ module _ (code : ℕ) where
   unfolding actionFrom
   is-wait e = rw e
 
-  pub is-meet : code ≡ 2 → actionFrom code ≡ meet
-  unfolding actionFrom
-  is-meet e = rw e
-
   pub is-meet-and-wait : code ≡ 3 → actionFrom code ≡ meetAndWait
   unfolding actionFrom
   is-meet-and-wait e = rw e
@@ -58,9 +53,25 @@ module _ (code : ℕ) where
   unfolding actionFrom
   is-absent e = rw e
 
+  pub is-nothing : 7 ≤ code → actionFrom code ≡ nothing
+  unfolding actionFrom
+  is-nothing h =
+      rw (
+        ne-eqb code 0 (λ e. omega arith),
+        ne-eqb code 1 (λ e. omega arith),
+        ne-eqb code 2 (λ e. omega arith),
+        ne-eqb code 3 (λ e. omega arith),
+        ne-eqb code 4 (λ e. omega arith),
+        ne-eqb code 5 (λ e. omega arith),
+        ne-eqb code 6 (λ e. omega arith),
+      )
+
+  past : (n : ℕ) → n ≤ code → (code ≡ n → ⊥) → suc n ≤ code
+  past n h e = omega arith
+
   -- whatever holds of each action that the code may stand for
   pub by-code : (P : Action → Type 0) → (code ≡ 0 → P pass) → (code ≡ 1 → P wait) → (code ≡ 2 → P meet) → (code ≡ 3 → P meetAndWait) → (code ≡ 4 → P delete) → (code ≡ 5 → P accumulate)
-      → (code ≡ 6 → P absent) → P nothing → P (actionFrom code)
+      → (code ≡ 6 → P absent) → (7 ≤ code → P nothing) → P (actionFrom code)
   unfolding actionFrom
   by-code P p0 p1 p2 p3 p4 p5 p6 p7 = elim (ℕ-discrete code 0) [
     | yes e ↦ rw e (p0 e)
@@ -76,7 +87,7 @@ module _ (code : ℕ) where
               | yes e ↦ rw e (p5 e)
               | no n5 ↦ elim (ℕ-discrete code 6) [
                 | yes e ↦ rw e (p6 e)
-                | no n6 ↦ rw (ne-eqb code 0 n0, ne-eqb code 1 n1, ne-eqb code 2 n2, ne-eqb code 3 n3, ne-eqb code 4 n4, ne-eqb code 5 n5, ne-eqb code 6 n6) p7
+                | no n6 ↦ rw (ne-eqb code 0 n0, ne-eqb code 1 n1, ne-eqb code 2 n2, ne-eqb code 3 n3, ne-eqb code 4 n4, ne-eqb code 5 n5, ne-eqb code 6 n6) (p7 (past 6 (past 5 (past 4 (past 3 (past 2 (past 1 (past 0 (omega arith) n0) n1) n2) n3) n4) n5) n6))
               ]
             ]
           ]
@@ -95,77 +106,37 @@ module _ (code : ℕ) where
   may-wait-other a = elim (ℕ-discrete code 3) [
     | yes e ↦ rw (is-meet-and-wait e, e)
     | no c ↦ rw (ne-eqb code 3 c)
-        (by-code (λ x. false ≡ mayWait x) (λ e. refl) (λ e. absurd (a e)) (λ e. refl) (λ e. absurd (c e)) (λ e. refl) (λ e. refl) (λ e. refl) refl)
+        (by-code (λ x. false ≡ mayWait x) (λ e. refl) (λ e. absurd (a e)) (λ e. refl) (λ e. absurd (c e)) (λ e. refl) (λ e. refl) (λ e. refl) (λ e. refl))
   ]
 
-  -- ---- the candidates
-  module _ (clocks : Clocks) (k l : List Occurrence) (o : Occurrence) (m : List Bool) where
-    pub candidates-meet : code ≡ 2 → m ≡ seqCandidates clocks l o → m ≡ candidatesOf (actionFrom code) clocks k l o
-    unfolding candidatesOf
-    candidates-meet e h = rw (is-meet e) h
+  -- ---- what it looks for
+  module _ (clocks : Clocks) (k l : List Occurrence) (o : Occurrence) where
+    abbrev looked : Action → List Bool
+    looked x = lookedFor x clocks k l o
 
-    pub candidates-both : code ≡ 3 → m ≡ andCandidates l → m ≡ candidatesOf (actionFrom code) clocks k l o
-    unfolding candidatesOf
-    candidates-both e h = rw (is-meet-and-wait e) h
+    pub looked-both : code ≡ 3 → andCandidates l ≡ looked (actionFrom code)
+    unfolding lookedFor candidatesOf removedBy
+    looked-both e = rw (is-meet-and-wait e)
 
-    pub candidates-accumulate : code ≡ 5 → m ≡ seqCandidates clocks l o → m ≡ candidatesOf (actionFrom code) clocks k l o
-    unfolding candidatesOf
-    candidates-accumulate e h = rw (is-accumulate e) h
+    pub looked-absent : code ≡ 6 → absenceCandidates clocks l k o ≡ looked (actionFrom code)
+    unfolding lookedFor candidatesOf removedBy
+    looked-absent e = rw (is-absent e)
 
-    pub candidates-absent : code ≡ 6 → m ≡ absenceCandidates clocks l k o → m ≡ candidatesOf (actionFrom code) clocks k l o
-    unfolding candidatesOf
-    candidates-absent e h = rw (is-absent e) h
+    pub looked-before : Looks code → (code ≡ 3 → ⊥) → (code ≡ 6 → ⊥) → seqCandidates clocks l o ≡ looked (actionFrom code)
+    unfolding lookedFor candidatesOf removedBy
+    looked-before (low, high) c g =
+        by-code (λ x. seqCandidates clocks l o ≡ looked x) (λ e. absurd (omega arith)) (λ e. absurd (omega arith)) (λ e. refl) (λ e. absurd (c e)) (λ e. refl) (λ e. refl) (λ e. absurd (g e))
+        (λ e. absurd (omega arith))
 
-    pub candidates-none : (code ≡ 2 → ⊥) → (code ≡ 3 → ⊥) → (code ≡ 5 → ⊥) → (code ≡ 6 → ⊥) → m ≡ padded 16 [] → m ≡ candidatesOf (actionFrom code) clocks k l o
-    unfolding candidatesOf
-    candidates-none b c f g h =
-        by-code (λ x. m ≡ candidatesOf x clocks k l o) (λ e. h) (λ e. h) (λ e. absurd (b e)) (λ e. absurd (c e)) (λ e. h) (λ e. absurd (f e)) (λ e. absurd (g e)) h
+    -- for callers: what it deletes, and else the candidates
+    pub looked-deletes : code ≡ 4 → looked (actionFrom code) ≡ seqCandidates clocks l o
+    unfolding lookedFor removedBy
+    looked-deletes e = rw (is-delete e)
 
-    -- ---- what is removed of the other side
-    pub removed-before : (r : List Bool) → code ≡ 4 → m ≡ seqCandidates clocks l o → m ≡ removedBy (actionFrom code) clocks l r o
-    unfolding removedBy
-    removed-before r e h = rw (is-delete e) h
-
-    pub removed-candidates : (r : List Bool) → code ≡ 5 → m ≡ candidatesOf (actionFrom code) clocks k l o → m ≡ removedBy (actionFrom code) clocks l r o
-    unfolding candidatesOf removedBy
-    removed-candidates r e h = rw (is-accumulate e) (rw (is-accumulate e) at h)
-
-    -- ---- and of its own
-    pub cleared-before : code ≡ 5 → m ≡ seqCandidates clocks k o → m ≡ clearedBy (actionFrom code) clocks k o
-    unfolding clearedBy
-    cleared-before e h = rw (is-accumulate e) h
-
-    pub before-cleared : code ≡ 5 → m ≡ clearedBy (actionFrom code) clocks k o → m ≡ seqCandidates clocks k o
-    unfolding clearedBy
-    before-cleared e h = rw (is-accumulate e) at h
-
-    pub cleared-none : (code ≡ 5 → ⊥) → m ≡ padded 16 [] → m ≡ clearedBy (actionFrom code) clocks k o
-    unfolding clearedBy
-    cleared-none f h =
-        by-code (λ x. m ≡ clearedBy x clocks k o) (λ e. h) (λ e. h) (λ e. h) (λ e. h) (λ e. h) (λ e. absurd (f e)) (λ e. h) h
-
-  pub removed-by-row : (clocks : Clocks) (l : List Occurrence) (o : Occurrence) (r : List Bool) → (code ≡ 4 → ⊥) → (code ≡ 5 → ⊥) → r ≡ removedBy (actionFrom code) clocks l r o
-  unfolding removedBy
-  removed-by-row clocks l o r d f =
-      by-code (λ x. r ≡ removedBy x clocks l r o) (λ e. refl) (λ e. refl) (λ e. refl) (λ e. refl) (λ e. absurd (d e)) (λ e. absurd (f e)) (λ e. refl) refl
-
-  -- ---- what is made, of those that are taken
-  module _ (row : Context) (clocks : Clocks) (k l : List Occurrence) (o : Occurrence) where
-    abbrev taken : Action → List Occurrence
-    taken x = marked l (chosen row clocks l (candidatesOf x clocks k l o) .taken)
-
-    none-made-of : madeOf (row .finds) clocks (marked l (chosen row clocks l (padded 16 []) .taken)) o ≡ []
-    none-made-of = none-made row clocks l (padded 16 []) o (none-marked l)
-
-    pub made-by-row : (code ≡ 0 → ⊥) → (code ≡ 5 → ⊥) → madeOf (row .finds) clocks (taken (actionFrom code)) o ≡ madeBy (actionFrom code) (row .finds) clocks k (taken (actionFrom code)) o
-    unfolding madeBy candidatesOf
-    made-by-row a f =
-        by-code (λ x. madeOf (row .finds) clocks (taken x) o ≡ madeBy x (row .finds) clocks k (taken x) o) (λ e. absurd (a e)) (λ e. none-made-of) (λ e. refl) (λ e. refl)
-        (λ e. none-made-of) (λ e. absurd (f e)) (λ e. refl) none-made-of
-
-    pub made-accumulated : code ≡ 5 → accumulatedOf (row .finds) clocks (taken (actionFrom code)) k o ≡ madeBy (actionFrom code) (row .finds) clocks k (taken (actionFrom code)) o
-    unfolding madeBy
-    made-accumulated e = rw (is-accumulate e)
+    pub looked-candidates : (code ≡ 4 → ⊥) → looked (actionFrom code) ≡ candidatesOf (actionFrom code) clocks k l o
+    unfolding lookedFor candidatesOf removedBy
+    looked-candidates d =
+        by-code (λ x. looked x ≡ candidatesOf x clocks k l o) (λ e. refl) (λ e. refl) (λ e. refl) (λ e. refl) (λ e. absurd (d e)) (λ e. refl) (λ e. refl) (λ e. refl)
 
 -- ---- who waits
 some-first : (m : List Bool) → firstMark m ≡ length m → somePasses (λ b. b) m ≡ false
@@ -205,4 +176,4 @@ module _ (code : ℕ) (x : Afterwards) (m : List Bool) where
   pub waits-never : (code ≡ 1 → ⊥) → (code ≡ 3 → ⊥) → false ≡ waitsBy (actionFrom code) x m
   unfolding waitsBy
   waits-never a c =
-      by-code code (λ y. false ≡ waitsBy y x m) (λ e. refl) (λ e. absurd (a e)) (λ e. refl) (λ e. absurd (c e)) (λ e. refl) (λ e. refl) (λ e. refl) refl
+      by-code code (λ y. false ≡ waitsBy y x m) (λ e. refl) (λ e. absurd (a e)) (λ e. refl) (λ e. absurd (c e)) (λ e. refl) (λ e. refl) (λ e. refl) (λ e. refl)

@@ -1,5 +1,5 @@
-// One arrival at a node: its meeting, that is the candidates among those that wait, those taken and removed, and whether the arrival waits itself; and the
-// findings. Waiting lists, a row for what the node makes and a tally are lent; what is returned is the limit that ends the work, if one is met.
+// One arrival at a node, part by part: the candidates among those that wait, those taken and removed, the findings, and whether the arrival waits itself.
+// Waiting lists, a row for what the node makes and a tally are lent; what is returned is the limit that ends the work, if one is met.
 use contexts::Choice;
 use detections::LoggerNumbers;
 use emissions::Limit;
@@ -15,7 +15,7 @@ ghost use Rattle.detections.specs.Writing.{Beyond};
 ghost use Rattle.occurrences.specs.declared.Occurrence.{Occurrence};
 ghost use Rattle.occurrences.specs.Combination.{combinedOf};
 ghost use Rattle.occurrences.specs.Packed.{Notes, Stands};
-ghost use Rattle.waiting_lists.specs.Lists.{Arrives, Beside, Known, Waits};
+ghost use Rattle.waiting_lists.specs.Lists.{Beside, Known, Waits, listOf};
 ghost use Rattle.waiting_lists.specs.Marks.{marksOf};
 ghost use Rattle.waiting_lists.specs.Waiting.{appendedTo};
 ghost use Rattle.contexts.specs.Choice.{chosen, seqCandidates};
@@ -23,8 +23,8 @@ ghost use Rattle.contexts.specs.Made.{accumulatedOf, groupsOf, madeOf};
 ghost use Rattle.contexts.specs.Steps.{Some};
 ghost use Rattle.contexts.specs.Table.{rowOf, together};
 ghost use Rattle.emissions.specs.Emissions.{Emits, Emitting, InOutput, bytesIn, emittedAll, findingsIn};
-ghost use Rattle.arrivals.specs.Meetings.{Arrival, actionFrom, candidatesOf, clearedBy, fullLimit, mayWait, meetingOf, removedBy, waitsBy};
-ghost use Rattle.arrivals.specs.Views.{Meets, MeetsBoth, MetAs, Spare};
+ghost use Rattle.arrivals.specs.Meetings.{actionFrom, fullLimit, mayWait, waitsBy};
+ghost use Rattle.arrivals.specs.Views.{Looks, Meets, MeetsBoth, Spare, lookedFor};
 
 // ---- what an arrival by an input does, by codes
 
@@ -42,7 +42,7 @@ pub const DELETE: u16 = 4;
 pub const ACCUMULATE: u16 = 5;
 
 pub const ABSENT: u16 = 6;
-// Nothing comes by this input.
+// Nothing comes by this input; any greater number is read as this.
 pub const NOTHING: u16 = 7;
 
 // ---- what is made
@@ -118,7 +118,7 @@ fn emit_together(
 }
 
 // What an arrival makes of those taken, by the context.
-fn emit_made(
+pub fn emit_made(
     tally: &mut Tally,
     made: &mut Made,
     list: &[Packed],
@@ -200,11 +200,13 @@ fn next_group(context: u64, rest: u64) -> Group
 }
 
 // What a third arrival accumulates of the lefts taken, by the context, with the middles between; beside it, the marks of the middles before it.
-fn emit_accumulated(
+pub fn emit_accumulated(
     tally: &mut Tally,
     made: &mut Made,
-    met: Met,
+    taken: u64,
+    context: u64,
     lefts: &[Packed],
+    earlier: u64,
     middles: &[Packed],
     o: &Packed,
     place: u64,
@@ -217,20 +219,20 @@ fn emit_accumulated(
     ensures emits { λ r. ⌜ ((t : Notes (now (ticks .entry)) (now (globals .entry))) (k l : List Occurrence) (s : Emitting) (x : Occurrence)
         → Waits t (now (middles .entry)) k → Waits t (now (lefts .entry)) l
         → Emits t Limit.None (now (tally .entry)) (now (made .entry)) (now (out .entry)) s → Stands t (now (o .entry)) x
-        → marksOf (met .cleared) ≡ seqCandidates (t .clocks) k x
+        → marksOf earlier ≡ seqCandidates (t .clocks) k x
         → Emits t r (now (tally .exit)) (now (made .exit)) (now (out .exit))
         (emittedAll (length (now (out .entry))) (now (loggers .entry)) place s
-        (accumulatedOf (rowOf (met .context) .finds) (t .clocks) (marked l (marksOf (met .taken))) k x))) ⌝ }
+        (accumulatedOf (rowOf context .finds) (t .clocks) (marked l (marksOf taken)) k x))) ⌝ }
     ensures beyond { λ _. ⌜ Beyond (now (out .entry)) (now (out .exit)) (bytesIn (now (tally .entry)))
         (findingsIn (now (tally .exit))) (bytesIn (now (tally .exit))) ⌝ }
 {
     let waiting = waiting_lists::list_of(lefts);
     let n = waiting.len;
-    let mut rest = met.taken;
+    let mut rest = taken;
     let mut i = waiting_lists::first_marked(rest);
     while i < n {
-        let group = next_group(met.context, rest);
-        let c = contexts::accumulated(lefts, group.lefts, middles, met.cleared, o, ticks, globals);
+        let group = next_group(context, rest);
+        let c = contexts::accumulated(lefts, group.lefts, middles, earlier, o, ticks, globals);
         let end = emissions::emit_one(tally, made, place, &c, ticks, loggers, out);
         if end.is_reached() {
             return end;
@@ -243,19 +245,21 @@ fn emit_accumulated(
 
 // ---- the meeting
 
-// What an arrival does at a node, by the context: of the other side the marks of those taken and of those removed, of its own the marks of those removed, and
-// whether it then waits.
-pub struct Met {
-    pub action: u16,
-    pub context: u64,
-    pub taken: u64,
-    pub removed: u64,
-    pub cleared: u64,
-    pub waits: bool,
+// How many of the middles, its own side, can block a left: at absence all that wait, else none.
+fn blockers_of(action: u16, own: &[Packed]) -> usize
+    requires { ⌜ 0 < length (now own) ⌝ }
+    ensures { λ r. ⌜ (action ≡ 6 → r ≡ listOf (now (own .entry)) .len) × ((action ≡ 6 → ⊥) → r ≡ 0) ⌝ }
+{
+    if action == ABSENT {
+        let waiting = waiting_lists::list_of(own);
+        waiting.len
+    } else {
+        0
+    }
 }
 
-// The candidates among those of the other side, as marks.
-fn candidates_of(
+// The candidates among those of the other side, as marks; where the arrival deletes, those that it deletes.
+pub fn candidates_of(
     action: u16,
     own: &[Packed],
     other: &[Packed],
@@ -265,66 +269,19 @@ fn candidates_of(
 ) -> u64
     requires { ⌜ Beside (now ticks) (now globals) (now own) (now other) (now o) ⌝ }
     ensures { λ r. ⌜ ((t : Notes (now (ticks .entry)) (now (globals .entry))) (k l : List Occurrence) (x : Occurrence)
-        → Waits t (now (own .entry)) k → Waits t (now (other .entry)) l → Stands t (now (o .entry)) x
-        → marksOf r ≡ candidatesOf (actionFrom action) (t .clocks) k l x) ⌝ }
+        → Waits t (now (own .entry)) k → Waits t (now (other .entry)) l → Stands t (now (o .entry)) x → Looks action
+        → marksOf r ≡ lookedFor (actionFrom action) (t .clocks) k l x) ⌝ }
 {
-    if action == MEET {
-        return contexts::before_arrival(other, o, ticks, globals);
-    }
     if action == MEET_AND_WAIT {
         let waiting = waiting_lists::list_of(other);
         return contexts::all_waiting(waiting.len);
     }
-    if action == ACCUMULATE {
-        return contexts::before_arrival(other, o, ticks, globals);
-    }
-    if action == ABSENT {
-        return contexts::unblocked(other, own, o, ticks, globals);
-    }
-    0
-}
-
-// What is removed of the other side, where these are the candidates, and these those that the context removes.
-fn removed_by(
-    action: u16,
-    other: &[Packed],
-    candidates: u64,
-    removed: u64,
-    o: &Packed,
-    ticks: &[u64],
-    globals: &[u64],
-) -> u64
-    requires { ⌜ Arrives (now ticks) (now globals) (now other) (now o) ⌝ }
-    ensures { λ r. ⌜ ((t : Notes (now (ticks .entry)) (now (globals .entry))) (k l : List Occurrence) (x : Occurrence)
-        → Waits t (now (other .entry)) l → Stands t (now (o .entry)) x
-        → marksOf candidates ≡ candidatesOf (actionFrom action) (t .clocks) k l x
-        → marksOf r ≡ removedBy (actionFrom action) (t .clocks) l (marksOf removed) x) ⌝ }
-{
-    if action == DELETE {
-        contexts::before_arrival(other, o, ticks, globals)
-    } else if action == ACCUMULATE {
-        candidates
-    } else {
-        removed
-    }
-}
-
-// What is removed of its own side.
-fn cleared_by(action: u16, own: &[Packed], o: &Packed, ticks: &[u64], globals: &[u64]) -> u64
-    requires { ⌜ Arrives (now ticks) (now globals) (now own) (now o) ⌝ }
-    ensures { λ r. ⌜ ((t : Notes (now (ticks .entry)) (now (globals .entry))) (k : List Occurrence) (x : Occurrence)
-        → Waits t (now (own .entry)) k → Stands t (now (o .entry)) x
-        → marksOf r ≡ clearedBy (actionFrom action) (t .clocks) k x) ⌝ }
-{
-    if action == ACCUMULATE {
-        contexts::before_arrival(own, o, ticks, globals)
-    } else {
-        0
-    }
+    let blockers = blockers_of(action, own);
+    contexts::unblocked(other, own, blockers, o, ticks, globals)
 }
 
 // What a context chooses of the candidates; nothing where there are none.
-fn choice_of(
+pub fn choice_of(
     context: u64,
     list: &[Packed],
     candidates: u64,
@@ -345,88 +302,6 @@ fn choice_of(
     contexts::choose(context, list, candidates, ticks, globals)
 }
 
-// The meeting of an arrival.
-pub fn meeting_of(
-    action: u16,
-    context: u64,
-    own: &[Packed],
-    other: &[Packed],
-    o: &Packed,
-    ticks: &[u64],
-    globals: &[u64],
-) -> Met
-    requires { ⌜ Beside (now ticks) (now globals) (now own) (now other) (now o) ⌝ }
-    ensures { λ r. ⌜ ((t : Notes (now (ticks .entry)) (now (globals .entry))) (k l : List Occurrence) (a : Arrival)
-        → Waits t (now (own .entry)) k → Waits t (now (other .entry)) l → Stands t (now (o .entry)) (a .occurrence)
-        → MetAs action context (meetingOf (actionFrom action) (rowOf context) (t .clocks) k l a) r) ⌝ }
-{
-    let candidates = candidates_of(action, own, other, o, ticks, globals);
-    let choice = choice_of(context, other, candidates, ticks, globals);
-    Met {
-        action: action,
-        context: context,
-        taken: choice.taken,
-        removed: removed_by(action, other, candidates, choice.removed, o, ticks, globals),
-        cleared: cleared_by(action, own, o, ticks, globals),
-        waits: waits(action, context, candidates),
-    }
-}
-
-// What a meeting makes, but for an arrival that is passed on.
-pub fn emit_met(
-    tally: &mut Tally,
-    made: &mut Made,
-    met: Met,
-    own: &[Packed],
-    other: &[Packed],
-    o: &Packed,
-    place: u64,
-    ticks: &[u64],
-    globals: &[u64],
-    loggers: &LoggerNumbers,
-    out: &mut [u8],
-) -> Limit
-    requires { ⌜ MeetsBoth (now ticks) (now globals) (now own) (now other) (now tally) (now made) (now out) (now o) × InOutput (now tally) (now out) ⌝ }
-    ensures emits { λ r. ⌜ ((t : Notes (now (ticks .entry)) (now (globals .entry))) (k l : List Occurrence) (s : Emitting) (a : Arrival)
-        → Waits t (now (own .entry)) k → Waits t (now (other .entry)) l
-        → Emits t Limit.None (now (tally .entry)) (now (made .entry)) (now (out .entry)) s → Stands t (now (o .entry)) (a .occurrence)
-        → (met .action ≡ 0 → ⊥)
-        → (let m = meetingOf (actionFrom (met .action)) (rowOf (met .context)) (t .clocks) k l a in MetAs (met .action) (met .context) m met
-        → Emits t r (now (tally .exit)) (now (made .exit)) (now (out .exit))
-        (emittedAll (length (now (out .entry))) (now (loggers .entry)) place s (m .made)))) ⌝ }
-    ensures beyond { λ _. ⌜ Beyond (now (out .entry)) (now (out .exit)) (bytesIn (now (tally .entry)))
-        (findingsIn (now (tally .exit))) (bytesIn (now (tally .exit))) ⌝ }
-{
-    if met.action == ACCUMULATE {
-        return emit_accumulated(
-            tally,
-            made,
-            met,
-            other,
-            own,
-            o,
-            place,
-            ticks,
-            globals,
-            loggers,
-            out,
-        );
-    }
-    emit_made(
-        tally,
-        made,
-        other,
-        met.taken,
-        o,
-        met.context,
-        place,
-        ticks,
-        globals,
-        loggers,
-        out,
-    )
-}
-
 // ---- waiting
 
 // Whether an arrival that does this may come to wait.
@@ -440,7 +315,7 @@ pub fn may_wait(action: u16) -> bool
 }
 
 // Whether it then waits, where these were the candidates.
-fn waits(action: u16, context: u64, candidates: u64) -> bool
+pub fn waits(action: u16, context: u64, candidates: u64) -> bool
     ensures { λ r. ⌜ r ≡ waitsBy (actionFrom action) (rowOf context .afterwards) (marksOf candidates) ⌝ }
 {
     if action == WAIT {

@@ -1,24 +1,24 @@
 -- What an arrival does at a node, case by case.
 use mathlib.Core.Bool.{Bool, true, false}
 use mathlib.Core.List.{List, [], _∷_}
-use mathlib.Core.Path.{_≡_, refl, sym, subst, _∙_}
-use Prim.Native.Nat.{ℕ}
+use mathlib.Core.Path.{_≡_, refl, sym, ap, _∙_}
+use Prim.Native.Nat.{ℕ, _≤_}
+use native.Mathlib.Omega.{arith}
 use Rattle.sequences.specs.Choice.{pick}
-use Rattle.sequences.specs.Marks.{padded, unmarked}
+use Rattle.sequences.specs.Marks.{marked, padded, unmarked}
 use Rattle.sequences.proofs.Booleans.{never-both}
 use Rattle.sequences.proofs.Loops.{fold-none, fold-next}
 use Rattle.sequences.proofs.Marks.{unmarked-padded}
-use Rattle.timestamps.specs.Order.{Clocks}
 use Rattle.occurrences.specs.declared.Occurrence.{Occurrence}
-use Rattle.contexts.specs.Choice.{chosen}
+use Rattle.contexts.specs.Choice.{chosen, seqCandidates}
+use Rattle.contexts.specs.Made.{accumulatedOf, madeOf}
 use Rattle.contexts.specs.Table.{Afterwards, Context, rowOf}
 use Rattle.plans.specs.declared.Node.{Node}
 use Rattle.emissions.specs.declared.Limit.the-variants.{None}
 use Rattle.emissions.specs.Emissions.{Emitting, emitted, emittedAll, reached}
 use Rattle.arrivals.specs.Meetings.{Action, pass, wait, meet, meetAndWait, delete, accumulate, absent, nothing, Arrival, Meeting, Setting, Sides, actionFrom, appended, candidatesOf, carriedOut, clearedBy, madeBy, mayWait, meetingOf, removedBy, sides, waitsBy}
-use Rattle.arrivals.specs.declared.Met.{Met}
-use Rattle.arrivals.specs.Views.{MetAs}
-use Rattle.arrivals.proofs.Actions.{is-pass, is-wait, none-marked}
+use Rattle.arrivals.specs.Views.{Looks}
+use Rattle.arrivals.proofs.Actions.{by-code, is-accumulate, is-delete, is-nothing, is-pass, is-wait, none-marked}
 use Rattle.contexts.proofs.Choices.{none-removed}
 use Rattle.operators.specs.Table.{actionOf}
 use Rattle.operators.specs.Turns.{Turned, arrives, meetingAt, sidesOf, turnedOf}
@@ -58,28 +58,112 @@ module _ (s : Setting) (place : ℕ) (row : Context) (own other : List Occurrenc
   unfolding carriedOut meetingOf candidatesOf madeBy removedBy clearedBy waitsBy emittedAll
   carried-wait code z h = rw (is-wait code z, fold-none (emitted (s .room) (s .loggers) place) e, h, other-same, unmarked-none own)
 
+  -- it deletes
+  pub carried-delete : (code : ℕ) → code ≡ 4 → e .limit ≡ None → (gone : List Bool) → gone ≡ seqCandidates (s .clocks) other o → sides own (unmarked other gone) e ≡ carried (actionFrom code)
+  unfolding carriedOut meetingOf candidatesOf madeBy removedBy clearedBy waitsBy emittedAll
+  carried-delete code z h gone is = rw (is-delete code z, fold-none (emitted (s .room) (s .loggers) place) e, h, is, unmarked-none own)
+
+  -- it does nothing
+  pub carried-nothing : (code : ℕ) → 7 ≤ code → e .limit ≡ None → sides own other e ≡ carried (actionFrom code)
+  unfolding carriedOut meetingOf candidatesOf madeBy removedBy clearedBy waitsBy emittedAll
+  carried-nothing code z h = rw (is-nothing code z, fold-none (emitted (s .room) (s .loggers) place) e, h, other-same, unmarked-none own)
+
 -- ---- a meeting is carried out
-module _ (s : Setting) (place : ℕ) (e : Emitting) (m : Meeting) where
+module _ (s : Setting) (place : ℕ) (e : Emitting) (m : Meeting) (made : List Occurrence) (is : made ≡ m .made) where
   abbrev f : Emitting
-  f = emittedAll (s .room) (s .loggers) place e (m .made)
+  f = emittedAll (s .room) (s .loggers) place e made
 
-  pub carried-stopped : reached (f .limit) ≡ true → sides (m .own) (m .other) f ≡ carriedOut s place e m
+  carried-stopped : reached (f .limit) ≡ true → sides (m .own) (m .other) f ≡ carriedOut s place e m
   unfolding carriedOut
-  carried-stopped h = rw h
+  carried-stopped h = rw (← is, h)
 
-  pub carried-gone : reached (f .limit) ≡ false → m .waits ≡ false → sides (unmarked (m .own) (m .cleared)) (unmarked (m .other) (m .removed)) f ≡ carriedOut s place e m
-  unfolding carriedOut
-  carried-gone h w = rw (h, w)
+  module _ (own other : List Occurrence) (p : own ≡ unmarked (m .own) (m .cleared)) (q : other ≡ unmarked (m .other) (m .removed)) (h : reached (f .limit) ≡ false) where
+    carried-gone : m .waits ≡ false → sides own other f ≡ carriedOut s place e m
+    unfolding carriedOut
+    carried-gone w = rw (p, q, ← is, h, w)
 
-  pub carried-joins : reached (f .limit) ≡ false → m .waits ≡ true
-      → appended (unmarked (m .own) (m .cleared)) (unmarked (m .other) (m .removed)) f (m .arrival .occurrence) ≡ carriedOut s place e m
-  unfolding carriedOut
-  carried-joins h w = rw (h, w)
+    carried-joins : m .waits ≡ true → appended own other f (m .arrival .occurrence) ≡ carriedOut s place e m
+    unfolding carriedOut
+    carried-joins w = rw (p, q, ← is, h, w)
 
--- the same by the numbers that the code keeps of it
-pub met-again : (m : ℕ → ℕ → Meeting) (code number : ℕ) (r : Met) → MetAs code number (m code number) r → MetAs (r .action) (r .context) (m (r .action) (r .context)) r
-met-again m code number r fit =
-    subst (λ (c : ℕ). MetAs c (r .context) (m c (r .context)) r) (sym (fit .action)) (subst (λ (n : ℕ). MetAs code n (m code n) r) (sym (fit .context)) fit)
+-- ---- with the candidates, and those taken of them
+module _ (s : Setting) (place : ℕ) (row : Context) (own other : List Occurrence) (e : Emitting) (a : Arrival) (code : ℕ) (candidates taken : List Bool)
+    (are : candidates ≡ candidatesOf (actionFrom code) (s .clocks) own other (a .occurrence)) (takes : taken ≡ chosen row (s .clocks) other candidates .taken) where
+  abbrev this : Meeting
+  this = meetingOf (actionFrom code) row (s .clocks) own other a
+
+  abbrev those : List Occurrence
+  those = marked other taken
+
+  those-are : those ≡ marked other (this .taken)
+  unfolding meetingOf
+  those-are = ap (marked other) (takes ∙ ap (λ m. chosen row (s .clocks) other m .taken) are)
+
+  -- by the context's row
+  module _ (looks : Looks code) (keeps : code ≡ 4 → ⊥) (apart : code ≡ 5 → ⊥) where
+    abbrev pub by-row : Emitting
+    by-row = emittedAll (s .room) (s .loggers) place e (madeOf (row .finds) (s .clocks) those (a .occurrence))
+
+    row-made : madeOf (row .finds) (s .clocks) those (a .occurrence) ≡ this .made
+    unfolding meetingOf madeBy
+    row-made =
+        let (low, high) = looks in
+        ap (λ l. madeOf (row .finds) (s .clocks) l (a .occurrence)) those-are
+        ∙ by-code code (λ x. madeOf (row .finds) (s .clocks) (marked other (this .taken)) (a .occurrence) ≡ madeBy x (row .finds) (s .clocks) own (marked other (this .taken)) (a .occurrence))
+        (λ z. absurd (omega arith)) (λ z. absurd (omega arith)) (λ z. refl) (λ z. refl) (λ z. absurd (keeps z)) (λ z. absurd (apart z)) (λ z. refl) (λ z. absurd (omega arith))
+
+    row-removed : (removed : List Bool) → removed ≡ chosen row (s .clocks) other candidates .removed → removed ≡ this .removed
+    unfolding meetingOf removedBy
+    row-removed removed is =
+        let gone = chosen row (s .clocks) other (candidatesOf (actionFrom code) (s .clocks) own other (a .occurrence)) .removed in
+        is ∙ ap (λ m. chosen row (s .clocks) other m .removed) are
+        ∙ by-code code (λ x. gone ≡ removedBy x (s .clocks) other gone (a .occurrence))
+        (λ z. refl) (λ z. refl) (λ z. refl) (λ z. refl) (λ z. absurd (keeps z)) (λ z. absurd (apart z)) (λ z. refl) (λ z. refl)
+
+    row-own : own ≡ unmarked own (this .cleared)
+    unfolding meetingOf clearedBy
+    row-own =
+        by-code code (λ x. own ≡ unmarked own (clearedBy x (s .clocks) own (a .occurrence)))
+        (λ z. same) (λ z. same) (λ z. same) (λ z. same) (λ z. same) (λ z. absurd (apart z)) (λ z. same) (λ z. same)
+      where
+        same : own ≡ unmarked own (padded 16 [])
+        same = sym (unmarked-none own)
+
+    pub row-stopped : reached (by-row .limit) ≡ true → sides own other by-row ≡ carried s place row own other e a (actionFrom code)
+    unfolding meetingOf
+    row-stopped h = carried-stopped s place e this _ row-made h
+
+    module _ (removed : List Bool) (removes : removed ≡ chosen row (s .clocks) other candidates .removed) (h : reached (by-row .limit) ≡ false) where
+      pub row-gone : waitsBy (actionFrom code) (row .afterwards) candidates ≡ false → sides own (unmarked other removed) by-row ≡ carried s place row own other e a (actionFrom code)
+      unfolding meetingOf
+      row-gone w =
+          carried-gone s place e this _ row-made own (unmarked other removed) row-own (ap (unmarked other) (row-removed removed removes)) h (sym (ap (waitsBy (actionFrom code) (row .afterwards)) are) ∙ w)
+
+      pub row-joins : waitsBy (actionFrom code) (row .afterwards) candidates ≡ true
+          → appended own (unmarked other removed) by-row (a .occurrence) ≡ carried s place row own other e a (actionFrom code)
+      unfolding meetingOf
+      row-joins w =
+          carried-joins s place e this _ row-made own (unmarked other removed) row-own (ap (unmarked other) (row-removed removed removes)) h (sym (ap (waitsBy (actionFrom code) (row .afterwards)) are) ∙ w)
+
+  -- it accumulates
+  module _ (five : code ≡ 5) where
+    abbrev pub gathered : Emitting
+    gathered = emittedAll (s .room) (s .loggers) place e (accumulatedOf (row .finds) (s .clocks) those own (a .occurrence))
+
+    gathered-made : accumulatedOf (row .finds) (s .clocks) those own (a .occurrence) ≡ this .made
+    unfolding meetingOf madeBy
+    gathered-made = ap (λ l. accumulatedOf (row .finds) (s .clocks) l own (a .occurrence)) those-are ∙ rw (is-accumulate code five)
+
+    pub gathered-stopped : reached (gathered .limit) ≡ true → sides own other gathered ≡ carried s place row own other e a (actionFrom code)
+    unfolding meetingOf
+    gathered-stopped h = carried-stopped s place e this _ gathered-made h
+
+    pub gathered-gone : (cleared : List Bool) → cleared ≡ seqCandidates (s .clocks) own (a .occurrence) → reached (gathered .limit) ≡ false
+        → sides (unmarked own cleared) (unmarked other candidates) gathered ≡ carried s place row own other e a (actionFrom code)
+    unfolding meetingOf candidatesOf removedBy clearedBy waitsBy
+    gathered-gone cleared is h =
+        carried-gone s place e this _ gathered-made (unmarked own cleared) (unmarked other candidates) (ap (unmarked own) (is ∙ rw (is-accumulate code five)))
+        (ap (unmarked other) (are ∙ rw (is-accumulate code five))) h (rw (is-accumulate code five))
 
 -- who waits may wait
 may-by : (x : Action) (y : Afterwards) (m : List Bool) → waitsBy x y m ≡ true → mayWait x ≡ true
@@ -95,11 +179,6 @@ may-by nothing y m h = absurd (never-both h refl)
 
 pub waits-may : (x : Action) (y : Afterwards) (m : List Bool) (r : Bool) → r ≡ waitsBy x y m → r ≡ true → mayWait x ≡ true
 waits-may x y m r e h = may-by x y m (sym e ∙ h)
-
-pub met-may : (code number : ℕ) (clocks : Clocks) (own other : List Occurrence) (a : Arrival) (r : Met) → MetAs code number (meetingOf (actionFrom code) (rowOf number) clocks own other a) r
-    → r .waits ≡ true → mayWait (actionFrom code) ≡ true
-unfolding meetingOf
-met-may code number clocks own other a r fit h = waits-may _ _ _ (r .waits) (fit .waits) h
 
 -- ---- the arrival at the node
 pub arrives-is : (s : Setting) (node : Node) (place : ℕ) (x : Turned) (a : Arrival) (input code context : ℕ) → x .emit .limit ≡ None → a .input ≡ input

@@ -1,4 +1,5 @@
 pub mod Carried
+pub mod Halves
 pub mod Sides
 pub mod Spares
 pub mod Table

@@ -106,14 +106,7 @@ module _ {ticks globals : List ℕ} (t : Notes ticks globals) (input split : ℕ
     pub own-back : from ≡ pick (eqb input 0) 0 split → to ≡ pick (eqb input 0) split (length lists) → (own′ : List Occurrence) → Waits t w own′ → Held t input split then own′ other
     own-back f g own′ k = own-by (eqb input 0) refl f g own′ k
 
-    -- the other; its own side is as it was
-    own-kept-by : (b : Bool) → eqb input 0 ≡ b → from ≡ pick (not b) 0 split → to ≡ pick (not b) split (length lists) → ownPart input split then ≡ ownPart input split lists
-    own-kept-by false e f g = rw (e, f, g) (left-back split lists w (h .inside) (omega (arith, many, f, g)) .1)
-    own-kept-by true e f g = rw (e, f, g) (middle-back split lists w (h .inside) (length lists) refl (omega (arith, many, f, g)) .0)
-
-    pub own-kept : from ≡ pick (not (eqb input 0)) 0 split → to ≡ pick (not (eqb input 0)) split (length lists) → ownPart input split then ≡ ownPart input split lists
-    own-kept f g = own-kept-by (eqb input 0) refl f g
-
+    -- the other
     other-by : (b : Bool) → eqb input 0 ≡ b → from ≡ pick (not b) 0 split → to ≡ pick (not b) split (length lists) → (other′ : List Occurrence) → Waits t w other′ → Held t input split then own other′
     other-by false e f g other′ k =
         let halves = left-back split lists w (h .inside) (omega (arith, many, f, g)) in

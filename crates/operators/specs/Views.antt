@@ -6,17 +6,22 @@ use Prim.Native.Nat.{ℕ, _≤_}
 use lib.Dec.{eqb}
 use lib.ListN.{drop, length, take}
 use Rattle.sequences.specs.Choice.{pick}
+use Rattle.timestamps.specs.Order.{Clocks}
 use Rattle.occurrences.specs.declared.Occurrence.{Occurrence}
 use Rattle.occurrences.specs.Packed.{Notes, Stand, Stands}
 use Rattle.waiting_lists.specs.Lists.{Waits}
+use Rattle.waiting_lists.specs.Marks.{marksOf}
+use Rattle.contexts.specs.declared.Choice.{Choice}
+use Rattle.contexts.specs.Choice.{chosen}
+use Rattle.contexts.specs.Table.{rowOf}
 use Rattle.plans.specs.declared.Node.{Node}
 use Rattle.emissions.specs.declared.Limit.{Limit}
 use Rattle.emissions.specs.declared.Limit.the-variants.{None}
 use Rattle.emissions.specs.Emissions.{Emits}
-use Rattle.arrivals.specs.Meetings.{actionFrom, mayWait}
+use Rattle.arrivals.specs.Meetings.{actionFrom, candidatesOf, mayWait}
 use Rattle.arrivals.specs.Views.{Spare}
 use Rattle.operators.specs.Table.{actionOf}
-use Rattle.operators.specs.Turns.{Turned}
+use Rattle.operators.specs.Turns.{Turned, sidesOf}
 use Rattle.operators.specs.declared.Part.{Part}
 use Rattle.operators.specs.declared.Turn.{Turn}
 
@@ -51,6 +56,12 @@ ownPart input split lists = pick (eqb input 0) (take split lists) (drop split li
 pub record Takes (node : Node) (turn : Turn) : Type 0 where
   pub action : actionFrom (turn .action) ≡ actionOf (node .operator) (turn .input)
   pub context : turn .context ≡ node .context
+
+-- the marks of an arrival's candidates, and what the turn's context chooses of them
+pub record Chose (turn : Turn) (clocks : Clocks) (x : Turned) (o : Occurrence) (candidates : ℕ) (choice : Choice) : Type 0 where
+  pub are : marksOf candidates ≡ candidatesOf (actionFrom (turn .action)) clocks (sidesOf (turn .input) x .own) (sidesOf (turn .input) x .other) o
+  pub taken : marksOf (choice .taken) ≡ chosen (rowOf (turn .context)) clocks (sidesOf (turn .input) x .other) (marksOf candidates) .taken
+  pub removed : marksOf (choice .removed) ≡ chosen (rowOf (turn .context)) clocks (sidesOf (turn .input) x .other) (marksOf candidates) .removed
 
 -- its own list has places for n that arrive, where they may come to wait
 abbrev pub Spares : Turn → (lists : List (List ℕ)) → ℕ → Type 0

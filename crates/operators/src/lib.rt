@@ -8,6 +8,7 @@ use arrivals::MEET_AND_WAIT;
 use arrivals::NOTHING;
 use arrivals::PASS;
 use arrivals::WAIT;
+use contexts::Choice;
 use detections::LoggerNumbers;
 use emissions::Limit;
 use emissions::Made;
@@ -23,9 +24,10 @@ ghost use Rattle.occurrences.specs.Packed.{Notes, Stand, Stands};
 ghost use Rattle.plans.specs.declared.Node.{Node};
 ghost use Rattle.emissions.specs.Emissions.{InOutput, bytesIn, findingsIn};
 ghost use Rattle.arrivals.specs.Meetings.{Arrival, actionFrom, settingOf};
+ghost use Rattle.arrivals.specs.Views.{Looks};
 ghost use Rattle.operators.specs.Table.{actionOf};
 ghost use Rattle.operators.specs.Turns.{Turned, arrives, inputTurn};
-ghost use Rattle.operators.specs.Views.{AllOffered, Half, Halves, HoldsTurned, Offered, Spares, Takes};
+ghost use Rattle.operators.specs.Views.{AllOffered, Chose, Half, Halves, HoldsTurned, Offered, Spares, Takes};
 
 // ---- the table
 
@@ -84,8 +86,182 @@ fn part_of(left: bool, split: usize, end: usize) -> Part
     }
 }
 
-// An arrival that is not passed on meets those that wait: findings first, then the removal, then the append; where a limit is met nothing is removed. Its own
-// part of the lists, and the other.
+// A third arrival accumulates: findings first, with the middles between; then all before it are removed, on both sides.
+fn accumulate(
+    turn: Turn,
+    candidates: u64,
+    choice: Choice,
+    own: Part,
+    other: Part,
+    lists: &mut [Packed],
+    tally: &mut Tally,
+    made: &mut Made,
+    o: &Packed,
+    ticks: &[u64],
+    globals: &[u64],
+    loggers: &LoggerNumbers,
+    out: &mut [u8],
+) -> Limit
+    requires { ⌜ Offered turn (now ticks) (now globals) (now lists) (now tally) (now made) (now out) (now o) × InOutput (now tally) (now out)
+        × Halves turn (length (now lists)) own other ⌝ }
+    ensures acts { λ r. ⌜ ((t : Notes (now (ticks .entry)) (now (globals .entry))) (node : Node) (x : Turned) (a : Arrival)
+        → turn .action ≡ 5 → Takes node turn → a .input ≡ turn .input → Stands t (now (o .entry)) (a .occurrence)
+        → HoldsTurned t Limit.None (turn .split) (now (lists .entry)) (now (tally .entry)) (now (made .entry)) (now (out .entry)) x
+        → Chose turn (t .clocks) x (a .occurrence) candidates choice
+        → HoldsTurned t r (turn .split) (now (lists .exit)) (now (tally .exit)) (now (made .exit)) (now (out .exit))
+        (arrives (settingOf (length (now (out .entry))) (t .clocks) (now (loggers .entry))) node (turn .place) x a)) ⌝ }
+    ensures beyond { λ _. ⌜ Beyond (now (out .entry)) (now (out .exit)) (bytesIn (now (tally .entry)))
+        (findingsIn (now (tally .exit))) (bytesIn (now (tally .exit))) ⌝ }
+{
+    let own_from = own.from;
+    let own_to = own.to;
+    let from = other.from;
+    let to = other.to;
+    let all = &lists[..];
+    let earlier = contexts::before_arrival(&all[own_from..own_to], o, ticks, globals);
+    let end = arrivals::emit_accumulated(
+        tally,
+        made,
+        choice.taken,
+        turn.context,
+        &all[from..to],
+        earlier,
+        &all[own_from..own_to],
+        o,
+        turn.place,
+        ticks,
+        globals,
+        loggers,
+        out,
+    );
+    if end.is_reached() {
+        return end;
+    }
+    waiting_lists::remove_from(&mut lists[from..to], candidates);
+    waiting_lists::remove_from(&mut lists[own_from..own_to], earlier);
+    Limit::None
+}
+
+// What the context's row says of an arrival: findings first, then the removal, then the append; where a limit is met nothing is removed.
+fn by_row(
+    turn: Turn,
+    candidates: u64,
+    choice: Choice,
+    own: Part,
+    other: Part,
+    lists: &mut [Packed],
+    tally: &mut Tally,
+    made: &mut Made,
+    o: &Packed,
+    ticks: &[u64],
+    globals: &[u64],
+    loggers: &LoggerNumbers,
+    out: &mut [u8],
+) -> Limit
+    requires { ⌜ Offered turn (now ticks) (now globals) (now lists) (now tally) (now made) (now out) (now o) × InOutput (now tally) (now out)
+        × Spares turn (now lists) 1 × Halves turn (length (now lists)) own other ⌝ }
+    ensures acts { λ r. ⌜ ((t : Notes (now (ticks .entry)) (now (globals .entry))) (node : Node) (x : Turned) (a : Arrival)
+        → Looks (turn .action) → (turn .action ≡ 4 → ⊥) → (turn .action ≡ 5 → ⊥)
+        → Takes node turn → a .input ≡ turn .input → Stands t (now (o .entry)) (a .occurrence)
+        → HoldsTurned t Limit.None (turn .split) (now (lists .entry)) (now (tally .entry)) (now (made .entry)) (now (out .entry)) x
+        → Chose turn (t .clocks) x (a .occurrence) candidates choice
+        → HoldsTurned t r (turn .split) (now (lists .exit)) (now (tally .exit)) (now (made .exit)) (now (out .exit))
+        (arrives (settingOf (length (now (out .entry))) (t .clocks) (now (loggers .entry))) node (turn .place) x a)) ⌝ }
+    ensures beyond { λ _. ⌜ Beyond (now (out .entry)) (now (out .exit)) (bytesIn (now (tally .entry)))
+        (findingsIn (now (tally .exit))) (bytesIn (now (tally .exit))) ⌝ }
+{
+    let own_from = own.from;
+    let own_to = own.to;
+    let from = other.from;
+    let to = other.to;
+    let all = &lists[..];
+    let end = arrivals::emit_made(
+        tally,
+        made,
+        &all[from..to],
+        choice.taken,
+        o,
+        turn.context,
+        turn.place,
+        ticks,
+        globals,
+        loggers,
+        out,
+    );
+    if end.is_reached() {
+        return end;
+    }
+    waiting_lists::remove_from(&mut lists[from..to], choice.removed);
+    if !arrivals::waits(turn.action, turn.context, candidates) {
+        return Limit::None;
+    }
+    arrivals::wait(&mut lists[own_from..own_to], o)
+}
+
+// What an arrival does with its candidates, and with what the context chooses of them.
+fn carry_out(
+    turn: Turn,
+    candidates: u64,
+    choice: Choice,
+    own: Part,
+    other: Part,
+    lists: &mut [Packed],
+    tally: &mut Tally,
+    made: &mut Made,
+    o: &Packed,
+    ticks: &[u64],
+    globals: &[u64],
+    loggers: &LoggerNumbers,
+    out: &mut [u8],
+) -> Limit
+    requires { ⌜ Offered turn (now ticks) (now globals) (now lists) (now tally) (now made) (now out) (now o) × InOutput (now tally) (now out)
+        × Spares turn (now lists) 1 × Halves turn (length (now lists)) own other ⌝ }
+    ensures acts { λ r. ⌜ ((t : Notes (now (ticks .entry)) (now (globals .entry))) (node : Node) (x : Turned) (a : Arrival)
+        → Looks (turn .action) → (turn .action ≡ 4 → ⊥)
+        → Takes node turn → a .input ≡ turn .input → Stands t (now (o .entry)) (a .occurrence)
+        → HoldsTurned t Limit.None (turn .split) (now (lists .entry)) (now (tally .entry)) (now (made .entry)) (now (out .entry)) x
+        → Chose turn (t .clocks) x (a .occurrence) candidates choice
+        → HoldsTurned t r (turn .split) (now (lists .exit)) (now (tally .exit)) (now (made .exit)) (now (out .exit))
+        (arrives (settingOf (length (now (out .entry))) (t .clocks) (now (loggers .entry))) node (turn .place) x a)) ⌝ }
+    ensures beyond { λ _. ⌜ Beyond (now (out .entry)) (now (out .exit)) (bytesIn (now (tally .entry)))
+        (findingsIn (now (tally .exit))) (bytesIn (now (tally .exit))) ⌝ }
+{
+    if turn.action == ACCUMULATE {
+        return accumulate(
+            turn,
+            candidates,
+            choice,
+            own,
+            other,
+            lists,
+            tally,
+            made,
+            o,
+            ticks,
+            globals,
+            loggers,
+            out,
+        );
+    }
+    by_row(
+        turn,
+        candidates,
+        choice,
+        own,
+        other,
+        lists,
+        tally,
+        made,
+        o,
+        ticks,
+        globals,
+        loggers,
+        out,
+    )
+}
+
+// An arrival looks at those that wait: one that deletes removes those before it, else the context chooses of its candidates. Its own part of the lists, and the
+// other.
 fn meet(
     turn: Turn,
     own: Part,
@@ -102,8 +278,7 @@ fn meet(
     requires { ⌜ Offered turn (now ticks) (now globals) (now lists) (now tally) (now made) (now out) (now o) × InOutput (now tally) (now out)
         × Spares turn (now lists) 1 × Halves turn (length (now lists)) own other ⌝ }
     ensures acts { λ r. ⌜ ((t : Notes (now (ticks .entry)) (now (globals .entry))) (node : Node) (x : Turned) (a : Arrival)
-        → (turn .action ≡ 0 → ⊥)
-        → Takes node turn → a .input ≡ turn .input → Stands t (now (o .entry)) (a .occurrence)
+        → Looks (turn .action) → Takes node turn → a .input ≡ turn .input → Stands t (now (o .entry)) (a .occurrence)
         → HoldsTurned t Limit.None (turn .split) (now (lists .entry)) (now (tally .entry)) (now (made .entry)) (now (out .entry)) x
         → HoldsTurned t r (turn .split) (now (lists .exit)) (now (tally .exit)) (now (made .exit)) (now (out .exit))
         (arrives (settingOf (length (now (out .entry))) (t .clocks) (now (loggers .entry))) node (turn .place) x a)) ⌝ }
@@ -115,37 +290,34 @@ fn meet(
     let from = other.from;
     let to = other.to;
     let all = &lists[..];
-    let met = arrivals::meeting_of(
+    let candidates = arrivals::candidates_of(
         turn.action,
-        turn.context,
         &all[own_from..own_to],
         &all[from..to],
         o,
         ticks,
         globals,
     );
-    let end = arrivals::emit_met(
+    if turn.action == DELETE {
+        waiting_lists::remove_from(&mut lists[from..to], candidates);
+        return Limit::None;
+    }
+    let choice = arrivals::choice_of(turn.context, &all[from..to], candidates, ticks, globals);
+    carry_out(
+        turn,
+        candidates,
+        choice,
+        own,
+        other,
+        lists,
         tally,
         made,
-        met,
-        &all[own_from..own_to],
-        &all[from..to],
         o,
-        turn.place,
         ticks,
         globals,
         loggers,
         out,
-    );
-    if end.is_reached() {
-        return end;
-    }
-    waiting_lists::remove_from(&mut lists[from..to], met.removed);
-    waiting_lists::remove_from(&mut lists[own_from..own_to], met.cleared);
-    if !met.waits {
-        return Limit::None;
-    }
-    arrivals::wait(&mut lists[own_from..own_to], o)
+    )
 }
 
 // One arrival, where no limit is met yet.
@@ -181,6 +353,9 @@ fn act(
     let to = own.to;
     if action == WAIT {
         return arrivals::wait(&mut lists[from..to], o);
+    }
+    if NOTHING <= action {
+        return Limit::None;
     }
     let other = part_of(!is_left, turn.split, end);
     meet(

@@ -30,16 +30,16 @@ use Rattle.arrivals.proofs.emit_accumulated.Statement.{statement}
 use Rattle.arrivals.proofs.emit_accumulated.Tie as tie
 
 abbrev Inv-loop : tie.InvT-loop
-Inv-loop tally₀ made₀ met lefts middles o place ticks globals loggers out₀ n rest₀ i₀ tally made out rest i =
+Inv-loop tally₀ made₀ taken context lefts earlier middles o place ticks globals loggers out₀ n rest₀ i₀ tally made out rest i =
     (i ≡ firstMark (marksOf rest)) × (length out ≡ length out₀) × Beyond out₀ out (bytesIn tally₀) (findingsIn tally) (bytesIn tally)
     × ((t : Notes ticks globals) (k l : List Occurrence) (s : Emitting) (x : Occurrence) → Waits t middles k → Waits t lefts l → Emits t None tally₀ made₀ out₀ s → Stands t o x
-    → marksOf (met .cleared) ≡ seqCandidates (t .clocks) k x
+    → marksOf earlier ≡ seqCandidates (t .clocks) k x
     → Left t tally made out
-    (fold (emitted (length out₀) loggers place) (map (λ g. accumulationOf (t .clocks) g k x) (groupsOf (rowOf (met .context) .finds) (marked l (marksOf rest)))))
-    (emittedAll (length out₀) loggers place s (accumulatedOf (rowOf (met .context) .finds) (t .clocks) (marked l (marksOf (met .taken))) k x)))
+    (fold (emitted (length out₀) loggers place) (map (λ g. accumulationOf (t .clocks) g k x) (groupsOf (rowOf context .finds) (marked l (marksOf rest)))))
+    (emittedAll (length out₀) loggers place s (accumulatedOf (rowOf context .finds) (t .clocks) (marked l (marksOf taken)) k x)))
 
 abbrev μ-loop : tie.MeasureT-loop
-μ-loop tally₀ made₀ met lefts middles o place ticks globals loggers out₀ n rest₀ i₀ tally made out rest i = rest
+μ-loop tally₀ made₀ taken context lefts earlier middles o place ticks globals loggers out₀ n rest₀ i₀ tally made out rest i = rest
 
 -- ---- what is read
 abbrev Read : Type 0
@@ -116,12 +116,12 @@ in-of c = acc-of c .before .before
 module _ (c : Told) (t : Notes (start-of (read-of (in-of c)) .args .ticks .now) (start-of (read-of (in-of c)) .args .globals .now)) (k l : List Occurrence) (s : Emitting) (x : Occurrence)
     (g : Waits t (now (start-of (read-of (in-of c)) .args .middles)) k) (h : Waits t (list-at (read-of (in-of c))) l)
     (m : (let a = start-of (read-of (in-of c)) .args in Emits t None (a .tally .now) (a .made .now) (a .out .now) s)) (p : Stands t (start-of (read-of (in-of c)) .args .o .now) x)
-    (early : marksOf (start-of (read-of (in-of c)) .args .met .cleared) ≡ seqCandidates (t .clocks) k x) where
+    (early : marksOf (start-of (read-of (in-of c)) .args .earlier) ≡ seqCandidates (t .clocks) k x) where
   abbrev loop-of : tie.At-loop Inv-loop μ-loop
   loop-of = in-of c .before
 
   abbrev finds : Findings
-  finds = rowOf (start-of (read-of (in-of c)) .args .met .context) .finds
+  finds = rowOf (start-of (read-of (in-of c)) .args .context) .finds
 
   abbrev lefts-of : List Occurrence
   lefts-of = marked l (marksOf (acc-of c .before .next-group .result .lefts))
@@ -148,7 +148,7 @@ module _ (c : Told) (t : Notes (start-of (read-of (in-of c)) .args .ticks .now) 
 
   rest-then : (let a = start-of (read-of (in-of c)) .args in
       fold (emitted (length (a .out .now)) (a .loggers .now) (a .place)) (map (λ (lefts : List Occurrence). accumulationOf (t .clocks) lefts k x) (groupsOf finds (marked l (marksOf (acc-of c .before .next-group .result .rest))))) then-of
-      ≡ emittedAll (length (a .out .now)) (a .loggers .now) (a .place) s (accumulatedOf finds (t .clocks) (marked l (marksOf (a .met .taken))) k x))
+      ≡ emittedAll (length (a .out .now)) (a .loggers .now) (a .place) s (accumulatedOf finds (t .clocks) (marked l (marksOf (a .taken))) k x))
   rest-then =
       let a = start-of (read-of (in-of c)) .args in
       group-turn (emitted (length (a .out .now)) (a .loggers .now) (a .place)) finds (t .clocks) k x l (marksOf (loop-of .loop .rest)) (marksOf (acc-of c .before .next-group .result .lefts)) (marksOf (acc-of c .before .next-group .result .rest))
@@ -202,7 +202,7 @@ returns-2 c =
       (λ t k l s x g h m p early.
           let r = a .loop .inv .3 t k l s x g h m p early in
           let past : length l ≤ firstMark (marksOf (a .loop .rest)) = omega (arith, read-length t (list-at q) l h (q .list-of .result) (q .list-of .ensures), a .loop .inv .0, c .loop-test .left) in
-          subst (Emits t _ _ _ _) (sym (group-end _ (rowOf (start-of q .args .met .context) .finds) (t .clocks) k x l (marksOf (a .loop .rest)) (r .so-far) past) ∙ r .same) (r .emits)),
+          subst (Emits t _ _ _ _) (sym (group-end _ (rowOf (start-of q .args .context) .finds) (t .clocks) k x l (marksOf (a .loop .rest)) (r .so-far) past) ∙ r .same) (r .emits)),
       a .loop .inv .2,
     )
 

@@ -14,8 +14,8 @@ use Rattle.waiting_lists.specs.declared.WaitingList.{WaitingList}
 use borrow.Author.Needs.{needs}
 use lib.ListN.{drop, getD, length, take}
 use lib.Seq.{getD-take, length-take-le}
-use mathlib.Core.Bool.{Bool, true, false}
-use mathlib.Core.List.{List, []}
+use mathlib.Core.Bool.{true, false}
+use mathlib.Core.List.{List}
 use mathlib.Core.Path.{_∙_, _≡_, ap, refl, sym}
 use native.Mathlib.Omega.{arith}
 use Rattle.contexts.proofs.is_blocked.Statement.{statement}

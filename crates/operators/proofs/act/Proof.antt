@@ -2,32 +2,25 @@
 use Prim.Native.Nat.{ℕ, _-_, _*_, _≤_, _<_}
 use Rattle.arrivals.proofs.Actions.{may-wait-first}
 use Rattle.arrivals.specs.Meetings.{Arrival, Setting, Sides, actionFrom, carriedOut, meetingOf, settingOf}
-use Rattle.arrivals.specs.Views.{Spare}
+use Rattle.arrivals.specs.Views.{Looks, Spare}
 use Rattle.contexts.specs.Table.{rowOf}
 use Rattle.detections.proofs.Writing.{beyond-none}
-use Rattle.emissions.proofs.Emitting.{emits-as}
-use Rattle.emissions.proofs.Limits.{unreached}
-use Rattle.emissions.specs.Emissions.{Emits, Emitting, emittedAll, reached}
 use Rattle.emissions.specs.declared.Limit.the-variants.{None}
 use Rattle.occurrences.proofs.Packed.{stands-within}
-use Rattle.occurrences.specs.Packed.{Notes, Stands}
+use Rattle.occurrences.specs.Packed.{Notes}
 use Rattle.occurrences.specs.declared.Occurrence.{Occurrence}
-use Rattle.operators.proofs.Carried.{arrives-is, carried-gone, carried-joins, carried-pass, carried-stopped, carried-wait, waits-may}
-use Rattle.operators.proofs.Sides.{Held, appended-emits, appended-is, half-is, held-of, other-back, otherPart, own-back, own-kept, turned-of}
+use Rattle.operators.proofs.Carried.{arrives-is, carried-nothing, carried-pass, carried-wait}
+use Rattle.operators.proofs.Sides.{Held, appended-emits, appended-is, half-is, held-of, own-back, turned-of}
 use Rattle.operators.specs.Turns.{Turned, arrives, sidesOf, turnedOf}
 use Rattle.operators.specs.Views.{Half, HoldsTurned, Takes, ownPart}
 use Rattle.plans.specs.declared.Node.{Node}
-use Rattle.sequences.proofs.Parts.{back, length-back}
 use Rattle.waiting_lists.specs.Lists.{Waits}
-use Rattle.waiting_lists.specs.Marks.{marksOf}
 use Rattle.waiting_lists.specs.Waiting.{appendedTo}
 use borrow.Author.Needs.{needs}
-use borrow.Author.Tests.{not-false, not-true}
 use denote.Ref.{now}
 use lib.Dec.{eqb}
 use lib.ListN.{drop, length, take, length-drop}
 use lib.Seq.{length-take-le}
-use mathlib.Core.Bool.{true, false}
 use mathlib.Core.List.{List}
 use mathlib.Core.Path.{_∙_, _≡_, ap, refl, subst, sym}
 use native.Mathlib.Omega.{arith}
@@ -153,15 +146,29 @@ returns-2 c =
       beyond-none (fits .0) (fits .1),
     )
 
+-- ---- it does nothing
+returns-3 : tie.Need-returns-3
+returns-3 c =
+    let start = start-of (c .before .before) in
+    let (some, fits, spares) = start .pre in (
+      (λ t node x a takes i p h.
+          subst (HoldsTurned t _ _ _ _ _ _)
+          (done start t node x a takes i h _
+          (carried-nothing (set-of start t node x a takes i h) (start .args .turn .place) (rowOf (start .args .turn .context)) (own-of start t node x a takes i h) (other-of start t node x a takes i h) (x .emit) a _
+          (c .if3 .taken) (h .emit .limit)))
+          (turned-of t (start .args .turn .input) (start .args .turn .split) _ _ _ (held start t node x a takes i h) (h .emit))),
+      beyond-none (fits .0) (fits .1),
+    )
+
 part-of-requires-2 : tie.Need-part-of-requires-2
 part-of-requires-2 c κs =
-    let (some, fits, spares) = start-of (c .before) .pre in
+    let (some, fits, spares) = start-of (c .before .before) .pre in
     let (t, x, y, h, p) = some in
     h .waits .inside
 
 -- ---- it meets those that wait
 abbrev both-of : tie.After-part-of2 → tie.After-part-of
-both-of c = c .before .before
+both-of c = c .before .before .before
 
 meet-requires : tie.Need-meet-requires
 meet-requires c κs =
@@ -175,12 +182,14 @@ same-length-3 c = search needs
 same-length-4 : tie.Need-same-length-4
 same-length-4 c = search needs
 
-returns-3 : tie.Need-returns-3
-returns-3 c =
+returns-4 : tie.Need-returns-4
+returns-4 c =
     let call = c .before .before .before in
     let two = call .before .before .before .before .before in
-    let never = both-of two .before .before .if1 .left in
-    ((λ t node x a takes i p h. call .meet .ensures .0 t node x a never takes i p h), call .meet .ensures .1)
+    let some = two .before in
+    let looks : Looks (start-of (both-of two) .args .turn .action) =
+    (omega (arith, both-of two .before .before .if1 .left, some .before .if2 .left), omega (arith, some .if3 .left)) in
+    ((λ t node x a takes i p h. call .meet .ensures .0 t node x a looks takes i p h), call .meet .ensures .1)
 
 pub act-spec : {M : Type 1} → statement M
 act-spec =
@@ -197,8 +206,9 @@ act-spec =
     wait-requires
     same-length-2
     returns-2
+    returns-3
     part-of-requires-2
     meet-requires
     same-length-3
     same-length-4
-    returns-3)
+    returns-4)
