@@ -192,7 +192,7 @@ none-taken zero (b ∷ m) h = absurd (omega arith)
 none-taken (suc k) [] h = absurd (omega arith)
 none-taken (suc k) (b ∷ m) h = rw (and-false b) (ap (λ r. false ∷ r) (none-taken k m (omega arith)))
 
-all-taken : {A : Type 0} (n : ℕ) (l : List A) (m : List Bool) → length m ≡ n → length l ≤ n
+pub all-taken : {A : Type 0} (n : ℕ) (l : List A) (m : List Bool) → length m ≡ n → length l ≤ n
     → zipWith _&&_ m (padded n (map (λ w. true) l)) ≡ padded n (zipWith (λ w c. c && true) l m)
 unfolding zipWith
 all-taken n [] m h k = ap (zipWith _&&_ m) (sym (padded-start n)) ∙ none-taken n m h ∙ padded-start n

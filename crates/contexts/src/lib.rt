@@ -7,9 +7,9 @@ ghost use mathlib.Core.List.{List};
 ghost use mathlib.Core.Path.{_≡_};
 ghost use Prim.Native.Nat.{_<_, _≤_};
 ghost use lib.Dec.{eqb};
-ghost use lib.ListN.{getD, length, take};
+ghost use lib.ListN.{getD, length, replicate, set, take};
 ghost use Rattle.sequences.specs.Loops.{fold};
-ghost use Rattle.sequences.specs.Marks.{marked};
+ghost use Rattle.sequences.specs.Marks.{firstMark, marked};
 ghost use Rattle.sequences.specs.Select.{somePasses};
 ghost use Rattle.occurrences.specs.declared.Occurrence.{Occurrence};
 ghost use Rattle.occurrences.specs.Combination.{combinedOf};
@@ -389,7 +389,18 @@ fn is_taken(
     }
 }
 
-// Those that a rule takes of the candidates.
+// Whether no more than one is marked.
+fn at_most_one(marks: u64) -> bool
+    ensures { λ r. ⌜ (r ≡ true → set (marksOf marks) (firstMark (marksOf marks)) false ≡ replicate 16 false) ⌝ }
+{
+    if marks == 0 {
+        return true;
+    }
+    // Without its lowest mark.
+    marks & (marks - 1) == 0
+}
+
+// Those that a rule takes of the candidates. An only one is taken by each rule, without a look at it.
 fn taken_by(rule: u8, list: &[Packed], candidates: u64, ticks: &[u64], globals: &[u64]) -> u64
     requires { ⌜ Known (now ticks) (now globals) (now list) ⌝ }
     ensures { λ r. ⌜ ((t : Notes (now (ticks .entry)) (now (globals .entry))) (l : List Occurrence) → Waits t (now (list .entry)) l
@@ -398,6 +409,9 @@ fn taken_by(rule: u8, list: &[Packed], candidates: u64, ticks: &[u64], globals: 
     let waiting = waiting_lists::list_of(list);
     let n = waiting.len;
     if Row::EVERY <= rule {
+        return candidates & all_waiting(n);
+    }
+    if at_most_one(candidates) {
         return candidates & all_waiting(n);
     }
     let mut lows = [0u64; 16];

@@ -1,15 +1,17 @@
 -- Every candidate that waits; else the marks before place i are those of the rule.
 use Prim.Native.Nat.{ℕ, _-_, _<_, _≤_}
+use Rattle.contexts.proofs.Only.{only-taken}
 use Rattle.contexts.proofs.Steps.{every-taken, zipped-turn}
 use Rattle.contexts.specs.Choice.{takenOf, takes}
 use Rattle.contexts.specs.Table.{takesOf}
+use Rattle.occurrences.proofs.Seen.{stands-composite}
 use Rattle.occurrences.specs.Packed.{Notes}
 use Rattle.occurrences.specs.declared.Occurrence.{Occurrence}
 use Rattle.sequences.proofs.Arrays.{length-zip}
 use Rattle.sequences.proofs.Marks.{padded-end, padded-start}
 use Rattle.sequences.specs.Marks.{marked, padded}
 use Rattle.waiting_lists.proofs.Marks.{length-marks, marks-none}
-use Rattle.waiting_lists.proofs.Waits.{read-few, read-length}
+use Rattle.waiting_lists.proofs.Waits.{read-at, read-few, read-length}
 use Rattle.waiting_lists.specs.declared.WaitingList.{WaitingList}
 use Rattle.waiting_lists.specs.Lists.{Waits}
 use Rattle.waiting_lists.specs.Marks.{marksOf}
@@ -17,7 +19,7 @@ use borrow.Author.Needs.{needs}
 use lib.ListN.{length, take}
 use mathlib.Core.Bool.{_&&_}
 use mathlib.Core.List.{List, zipWith}
-use mathlib.Core.Path.{_∙_, _≡_, ap, sym}
+use mathlib.Core.Path.{_∙_, _≡_, ap, refl, sym}
 use native.Mathlib.Omega.{arith}
 use Rattle.contexts.proofs.taken_by.Statement.{statement}
 use Rattle.contexts.proofs.taken_by.Tie as tie
@@ -52,7 +54,7 @@ abbrev list-at : Read → List (List ℕ)
 list-at q = start-of q .args .list .now
 
 abbrev read-of : In → Read
-read-of c = c .before .before .before .before .before
+read-of c = c .before .before .before .before .before .before .before
 
 few : (q : Read) → q .list-of .result .len ≤ 16
 few q = let (t, l, h) = start-of q .pre in read-few t (list-at q) l h (q .list-of .result) (q .list-of .ensures)
@@ -72,6 +74,24 @@ returns c =
     λ t l h.
     let len = read-length t (list-at q) l h (q .list-of .result) (q .list-of .ensures) in
     every-taken _ (t .clocks) l _ _ (c .before .if1 .taken) (omega (arith, len, few q)) (c .all-waiting .ensures l (sym len))
+
+at-most-one-requires : tie.Need-at-most-one-requires Inv-loop μ-loop
+at-most-one-requires c κs = search needs
+
+all-waiting-requires-2 : tie.Need-all-waiting-requires-2 Inv-loop μ-loop
+all-waiting-requires-2 c κs = few (c .before .before .before)
+
+-- those that wait have a stamp
+returns-2 : tie.Need-returns-2 Inv-loop μ-loop
+returns-2 c =
+    let one = c .before .before in
+    let q = one .before .before in
+    let list = q .list-of .result in
+    let is = q .list-of .ensures in
+    λ t l h.
+    let len = read-length t (list-at q) l h list is in
+    only-taken _ (t .clocks) l _ _ (omega (arith, len, few q)) (one .at-most-one .ensures (c .before .if2 .taken)) (c .all-waiting2 .ensures l (sym len))
+    (λ i k. stands-composite t _ _ (read-at t (list-at q) l h list is i _ refl (omega (arith, len, k))))
 
 lows-of-requires : tie.Need-lows-of-requires Inv-loop μ-loop
 lows-of-requires c κs = search needs
@@ -116,11 +136,11 @@ loop-again c =
           (m .is-marked .ensures) (k .is-taken .ensures t l h (λ j r. b .before .lows-of .ensures j (omega (arith, r, len, same)))) (c .with-mark .ensures),
     )
 
-returns-2 : tie.Need-returns-2 Inv-loop μ-loop
+returns-3 : tie.Need-returns-3 Inv-loop μ-loop
 unfolding takenOf
-returns-2 c =
+returns-3 c =
     let b = c .before in
-    let q = b .before .before .before .before in
+    let q = b .before .before .before .before .before .before in
     let s = start-of q in
     let marks = marksOf (s .args .candidates) in
     λ t l h.
@@ -137,6 +157,9 @@ taken-by-spec =
     list-of-requires
     all-waiting-requires
     returns
+    at-most-one-requires
+    all-waiting-requires-2
+    returns-2
     lows-of-requires
     loop-holds
     is-marked-requires
@@ -145,4 +168,4 @@ taken-by-spec =
     add-i
     loop-less
     loop-again
-    returns-2)
+    returns-3)
