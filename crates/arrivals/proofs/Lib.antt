@@ -1,4 +1,5 @@
 pub mod Actions
+pub mod Carried
 pub mod Each
 pub mod Groups
 pub mod Meetings

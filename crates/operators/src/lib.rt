@@ -119,7 +119,7 @@ fn accumulate(
     let to = other.to;
     let all = &lists[..];
     let earlier = contexts::before_arrival(&all[own_from..own_to], o, ticks, globals);
-    let end = arrivals::emit_accumulated(
+    let limit = arrivals::emit_accumulated(
         tally,
         made,
         choice.taken,
@@ -134,8 +134,8 @@ fn accumulate(
         loggers,
         out,
     );
-    if end.is_reached() {
-        return end;
+    if limit.is_reached() {
+        return limit;
     }
     waiting_lists::remove_from(&mut lists[from..to], candidates);
     waiting_lists::remove_from(&mut lists[own_from..own_to], earlier);

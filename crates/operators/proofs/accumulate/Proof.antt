@@ -1,5 +1,6 @@
 -- It accumulates, and a limit ends the work, or both sides are less.
 use Prim.Native.Nat.{ℕ, _*_, _≤_, _<_}
+use Rattle.arrivals.proofs.Carried.{gathered, gathered-gone, gathered-stopped}
 use Rattle.arrivals.specs.Meetings.{Arrival, Setting, Sides, actionFrom, carriedOut, meetingOf, settingOf}
 use Rattle.contexts.specs.Choice.{seqCandidates}
 use Rattle.contexts.specs.Table.{Context, rowOf}
@@ -9,7 +10,7 @@ use Rattle.emissions.specs.Emissions.{Emits, Emitting, reached}
 use Rattle.emissions.specs.declared.Limit.the-variants.{None}
 use Rattle.occurrences.specs.Packed.{Notes, Stands}
 use Rattle.occurrences.specs.declared.Occurrence.{Occurrence}
-use Rattle.operators.proofs.Carried.{arrives-is, gathered, gathered-gone, gathered-stopped}
+use Rattle.operators.proofs.Carried.{arrives-is}
 use Rattle.operators.proofs.Halves.{lent, other-kept, other-then, other-wait, own-kept, own-then, own-wait}
 use Rattle.operators.proofs.Sides.{Held, held-of, turned-of}
 use Rattle.operators.specs.Turns.{Turned, arrives, sidesOf, turnedOf}

@@ -1,6 +1,7 @@
 -- It is passed on; it waits; or it meets its candidates, and a limit ends the work, it is gone, or it waits.
 use Prim.Native.Nat.{ℕ, _-_, _*_, _≤_, _<_}
 use Rattle.arrivals.proofs.Actions.{may-wait-first}
+use Rattle.arrivals.proofs.Carried.{carried-nothing, carried-pass, carried-wait}
 use Rattle.arrivals.specs.Meetings.{Arrival, Setting, Sides, actionFrom, carriedOut, meetingOf, settingOf}
 use Rattle.arrivals.specs.Views.{Looks, Spare}
 use Rattle.contexts.specs.Table.{rowOf}
@@ -9,7 +10,7 @@ use Rattle.emissions.specs.declared.Limit.the-variants.{None}
 use Rattle.occurrences.proofs.Packed.{stands-within}
 use Rattle.occurrences.specs.Packed.{Notes}
 use Rattle.occurrences.specs.declared.Occurrence.{Occurrence}
-use Rattle.operators.proofs.Carried.{arrives-is, carried-nothing, carried-pass, carried-wait}
+use Rattle.operators.proofs.Carried.{arrives-is}
 use Rattle.operators.proofs.Sides.{Held, appended-emits, appended-is, half-is, held-of, own-back, turned-of}
 use Rattle.operators.specs.Turns.{Turned, arrives, sidesOf, turnedOf}
 use Rattle.operators.specs.Views.{Half, HoldsTurned, Takes, ownPart}

@@ -1,5 +1,6 @@
 -- By the row, and a limit ends the work, it is gone, or it waits.
 use Prim.Native.Nat.{ℕ, _*_, _≤_, _<_}
+use Rattle.arrivals.proofs.Carried.{by-row, row-gone, row-joins, row-stopped}
 use Rattle.arrivals.specs.Meetings.{Arrival, Setting, Sides, actionFrom, carriedOut, meetingOf, settingOf}
 use Rattle.arrivals.specs.Views.{Looks}
 use Rattle.contexts.specs.Table.{Context, rowOf}
@@ -9,7 +10,7 @@ use Rattle.emissions.specs.Emissions.{Emits, Emitting, reached}
 use Rattle.emissions.specs.declared.Limit.the-variants.{None}
 use Rattle.occurrences.specs.Packed.{Notes, Stands}
 use Rattle.occurrences.specs.declared.Occurrence.{Occurrence}
-use Rattle.operators.proofs.Carried.{arrives-is, by-row, row-gone, row-joins, row-stopped, waits-may}
+use Rattle.operators.proofs.Carried.{arrives-is, waits-may}
 use Rattle.operators.proofs.Halves.{lent, other-kept, other-then, other-wait, own-kept, own-long, own-part, own-then, own-wait}
 use Rattle.operators.proofs.Sides.{Held, appended-emits, appended-is, held-of, turned-of}
 use Rattle.operators.proofs.Spares.{spare-on}

@@ -1,6 +1,7 @@
 -- It deletes, or its candidates and the choice are carried out.
 use Prim.Native.Nat.{_≤_}
 use Rattle.arrivals.proofs.Actions.{looked-candidates, looked-deletes}
+use Rattle.arrivals.proofs.Carried.{carried-delete}
 use Rattle.arrivals.specs.Meetings.{Setting, actionFrom, settingOf}
 use Rattle.arrivals.specs.Views.{Looks, lookedFor}
 use Rattle.contexts.specs.Table.{rowOf}
@@ -8,7 +9,7 @@ use Rattle.detections.proofs.Writing.{beyond-none}
 use Rattle.emissions.specs.declared.Limit.the-variants.{None}
 use Rattle.occurrences.specs.Packed.{Notes, Stands}
 use Rattle.occurrences.specs.declared.Occurrence.{Occurrence}
-use Rattle.operators.proofs.Carried.{arrives-is, carried-delete}
+use Rattle.operators.proofs.Carried.{arrives-is}
 use Rattle.operators.proofs.Halves.{lent, other-then, other-wait, own-wait}
 use Rattle.operators.proofs.Sides.{Held, held-of, turned-of}
 use Rattle.operators.specs.Turns.{Turned, sidesOf, turnedOf}
