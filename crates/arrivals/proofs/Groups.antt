@@ -16,15 +16,10 @@ use Rattle.occurrences.specs.Occurrences.{noOccurrence}
 use Rattle.contexts.specs.Made.{accumulatedOf, accumulationOf, groupsOf}
 use Rattle.contexts.specs.Steps.{Some}
 use Rattle.contexts.specs.Table.{Findings, each, together}
+use Rattle.contexts.proofs.Only.{marked-off}
 use Rattle.emissions.specs.Emissions.{Emitting, emitted, emittedAll}
 
--- ---- no mark, and one mark
-marked-off : (l : List Occurrence) (n : ℕ) → marked l (replicate n false) ≡ []
-unfolding marked
-marked-off [] n = refl
-marked-off (w ∷ l) zero = refl
-marked-off (w ∷ l) (suc n) = marked-off l n
-
+-- ---- one mark
 marked-one : (l : List Occurrence) (n i : ℕ) → i < n → i < length l → marked l (set (replicate n false) i true) ≡ getD l i noOccurrence ∷ []
 unfolding marked
 marked-one [] n i h k = absurd (omega arith)

@@ -40,7 +40,7 @@ zip-same f g (w ∷ l) (true ∷ m) h = rw (h 0 (omega arith) refl) (ap (λ r. g
 zip-same f g (w ∷ l) (false ∷ m) h = ap (λ r. false ∷ r) (zip-same f g l m (λ i k e. h (suc i) (omega arith) e))
 
 -- without marks nobody is marked
-marked-off : (l : List Occurrence) (n : ℕ) → marked l (replicate n false) ≡ []
+pub marked-off : (l : List Occurrence) (n : ℕ) → marked l (replicate n false) ≡ []
 unfolding marked
 marked-off [] n = refl
 marked-off (w ∷ l) zero = refl
