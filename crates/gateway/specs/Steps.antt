@@ -6,7 +6,7 @@ use lib.ListN.{length, take}
 use Rattle.plans.specs.Faults.{numberOf}
 use Rattle.plans.specs.Layout.{Plan, planClocks}
 use Rattle.plans.specs.declared.PlanRead.{PlanRead}
-use Rattle.plans.specs.Views.{answerOf, nodeOf}
+use Rattle.plans.specs.Views.{Slotted, answerOf, nodeOf}
 use Rattle.passages.specs.Views.{Noted, RisingByPlace, heldEvents}
 use Rattle.progress.specs.Progress.{numbersByPlace}
 use Rattle.detector.specs.Steps.{Ran}
@@ -14,11 +14,12 @@ use Rattle.detector.specs.declared.Run.{Run}
 use Rattle.working.specs.declared.Answer.{Answer}
 use Rattle.working.specs.Working.{Answers, planWorked}
 
--- there are not too many loggers, kinds and nodes; and where the plan has no fault, the numbers of its kinds and of its loggers rise
-pub record PlanHeld (read : PlanRead) (loggers kinds : List ℕ) : Type 0 where
+-- there are not too many loggers, kinds and nodes, and the rows of the nodes hold slots; and where the plan has no fault, the numbers of its kinds and of its loggers rise
+pub record PlanHeld (read : PlanRead) (loggers kinds : List ℕ) (nodes : List (List ℕ)) : Type 0 where
   pub loggers-most : read .«logger_count» ≤ 8
   pub kinds-most : read .«kind_count» ≤ 32
   pub nodes-most : read .«node_count» ≤ 16
+  pub slotted : Slotted (read .«node_count») nodes
   pub rising : numberOf (read .fault) ≡ 0 → RisingByPlace (take (read .«kind_count») kinds) × RisingByPlace (take (read .«logger_count») loggers)
 
 -- the answer and the output of a passage under the plan that was read, or its fault

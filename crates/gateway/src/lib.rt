@@ -283,7 +283,7 @@ fn run_in_rows(
     globals: &[u64],
     output: &mut [u8],
 ) -> detector::Run
-    requires { ⌜ (n ≤ 16) × Noticed count (now «kind_places») (now «logger_places») (now ticks) (now globals) ⌝ }
+    requires { ⌜ (n ≤ 16) × Noticed count (now «kind_places») (now «logger_places») (now ticks) (now globals) × Slotted n (now nodes) ⌝ }
     ensures { λ r. ⌜ RunsUnder (now (numbers .entry)) (now (nodes .entry)) n count (now («kind_places» .entry)) (now («logger_places» .entry))
         (now (ticks .entry)) (now (globals .entry)) (now (output .entry)) r (now (output .exit)) ⌝ }
 {
@@ -336,7 +336,7 @@ fn work_under(
     ticks: &mut [u64],
     globals: &mut [u64],
 ) -> Answer
-    requires { ⌜ PlanHeld read (now loggers) (now kinds) × Room (now passage) (now ticks) × Room (now passage) (now globals) ⌝ }
+    requires { ⌜ PlanHeld read (now loggers) (now kinds) (now nodes) × Room (now passage) (now ticks) × Room (now passage) (now globals) ⌝ }
     ensures { λ r. ⌜ WorkedUnder read (now (loggers .entry)) (now (kinds .entry)) (now (nodes .entry))
         (now (passage .entry)) (now (output .entry)) r (now (output .exit)) ⌝ }
 {
@@ -388,7 +388,7 @@ fn work_in_tables(
     passage: &[u8],
     output: &mut [u8],
 ) -> Answer
-    requires { ⌜ PlanHeld read (now loggers) (now kinds) ⌝ }
+    requires { ⌜ PlanHeld read (now loggers) (now kinds) (now nodes) ⌝ }
     ensures { λ r. ⌜ WorkedUnder read (now (loggers .entry)) (now (kinds .entry)) (now (nodes .entry))
         (now (passage .entry)) (now (output .entry)) r (now (output .exit)) ⌝ }
 {

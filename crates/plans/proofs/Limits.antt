@@ -63,7 +63,7 @@ module _ (kinds place x : ℕ) where
       inr (x - 32768, high, omega arith))
       (or-cases (ltb x kinds) (leb 32768 x && ltb (x - 32768) place) e)
 
-  ok-input : InputOk kinds place x → isInput kinds place x ≡ true
+  pub ok-input : InputOk kinds place x → isInput kinds place x ≡ true
   ok-input (inl h) = or-left (ltb x kinds) _ (lt-ltb x kinds h)
   ok-input (inr h) =
       or-right (ltb x kinds) (leb 32768 x && ltb (x - 32768) place)
@@ -89,7 +89,7 @@ module _ (kinds place : ℕ) (n : Node) where
   third-small c p (inl h) = omega (arith, h .1)
   third-small c p (inr h) = input-small kinds place (n .third) c p (h .1)
 
-  node-ok : nodeFault kinds place n ≡ 0 → NodeOk kinds place n
+  pub node-ok : nodeFault kinds place n ≡ 0 → NodeOk kinds place n
   node-ok e =
       let a = unless-none (within 1 6 (n .operator)) 9 _ (omega arith) e in
       let b = unless-none (within 1 4 (n .context)) 10 _ (omega arith) (a .1) in

@@ -2,7 +2,6 @@
 // with request Q-2.
 use timestamps::Timestamp;
 ghost use mathlib.Core.Path.{_≡_};
-ghost use mathlib.Core.Bool.{_&&_};
 ghost use Prim.Native.Nat.{ℕ, _+_, _<_, _≤_};
 ghost use mathlib.Core.List.{List, [], _∷_, map};
 ghost use lib.ListN.{length};
@@ -13,8 +12,8 @@ ghost use Rattle.forms.specs.Views.{seen};
 ghost use Rattle.plans.specs.Faults.{numberOf};
 ghost use Rattle.plans.specs.Layout.{node};
 ghost use Rattle.plans.specs.Limits.{noNode};
-ghost use Rattle.plans.specs.Reader.{clocks, numbers, loggers, kinds, nodes, isInput, isThird, nodeFault, refused, readPlan};
-ghost use Rattle.plans.specs.Views.{Filled, answerOf, nodeOf};
+ghost use Rattle.plans.specs.Reader.{clocks, numbers, loggers, kinds, nodes, isThird, nodeFault, refused, readPlan};
+ghost use Rattle.plans.specs.Views.{Filled, RowOf, SlotOf, Slotted, SlotsBelow, answerOf, nodeOf};
 
 // A node entry, with the numbers of the file.
 pub struct Node {
@@ -87,12 +86,12 @@ pub enum PlanFault {
     BytesRemain,
 }
 
-// What a plan is read into: its loggers' and its kinds' numbers, and for each node its operator, its context and its three inputs.
+// What a plan is read into: its loggers' and its kinds' numbers, and a row for each node.
 pub type Loggers = [u16; 8];
 
 pub type Kinds = [u16; 32];
 
-// A node's operator, its context, and its inputs, left, middle and third.
+// A node's operator, its context, and the slots of its inputs, left, middle and third.
 pub type NodeRow = [u16; 5];
 
 pub const OPERATOR: usize = 0;
@@ -100,6 +99,16 @@ pub const OPERATOR: usize = 0;
 pub const CONTEXT: usize = 1;
 
 pub const INPUTS: usize = 2;
+
+const LEFT: usize = 2;
+
+const MIDDLE: usize = 3;
+
+const THIRD: usize = 4;
+// An input's slot is the place of a kind, or NODE_SLOTS and the place of an earlier node; NO_SLOT where there is none.
+const NO_SLOT: u16 = 33;
+
+const NODE_SLOTS: u16 = 34;
 
 pub type Nodes = [NodeRow; 16];
 
@@ -296,40 +305,52 @@ fn read_kinds(bytes: &[u8], start: usize, into: &mut Kinds) -> CountRead
 }
 
 // ---- nodes
-fn is_input(kinds: usize, place: usize, input: u64) -> bool
-    ensures { λ r. ⌜ r ≡ isInput kinds place input ⌝ }
+// An input's slot under so many kinds: the place of a kind, past the kinds for an earlier node; NO_SLOT where it is not allowed.
+fn slot_of(kinds: usize, place: usize, input: u64) -> u16
+    requires { ⌜ (kinds ≤ 32) × (place < 16) ⌝ }
+    ensures { λ r. ⌜ SlotOf kinds place input r ⌝ }
 {
     if input < kinds as u64 {
-        return true;
+        return input as u16;
     }
     if input < Node::FIRST_NODE {
-        return false;
+        return NO_SLOT;
     }
-    input - Node::FIRST_NODE < place as u64
+    let earlier = input - Node::FIRST_NODE;
+    if earlier < place as u64 {
+        earlier as u16 + NODE_SLOTS
+    } else {
+        NO_SLOT
+    }
 }
 
-// Left and middle.
-fn are_inputs(kinds: usize, place: usize, node: Node) -> bool
-    ensures { λ r. ⌜ r ≡ (isInput kinds place (node .left) && isInput kinds place (node .middle)) ⌝ }
+// The row of a node at a place.
+fn row_of(n: Node, kinds: usize, place: usize) -> NodeRow
+    requires { ⌜ (kinds ≤ 32) × (place < 16) × node .fits n ⌝ }
+    ensures { λ r. ⌜ RowOf kinds place n r ⌝ }
 {
-    if !is_input(kinds, place, node.left) {
-        return false;
-    }
-    is_input(kinds, place, node.middle)
+    [
+        n.operator as u16,
+        n.context as u16,
+        slot_of(kinds, place, n.left),
+        slot_of(kinds, place, n.middle),
+        slot_of(kinds, place, n.third),
+    ]
 }
 
 // OR, AND and SEQ have no third input, the others have one.
-fn is_third(kinds: usize, place: usize, node: Node) -> bool
-    ensures { λ r. ⌜ r ≡ isThird kinds place node ⌝ }
+fn is_third(node: Node, slot: u16) -> bool
+    ensures { λ r. ⌜ ((kinds place : ℕ) → SlotOf kinds place (node .third) slot → r ≡ isThird kinds place node) ⌝ }
 {
     if node.operator <= Node::SEQ {
         return node.third == Node::NO_INPUT;
     }
-    is_input(kinds, place, node.third)
+    slot != NO_SLOT
 }
 
-fn node_fault(node: Node, kinds: usize, place: usize) -> PlanFault
-    ensures { λ r. ⌜ numberOf r ≡ nodeFault kinds place node ⌝ }
+// The inputs are judged by their slots.
+fn node_fault(node: Node, row: &NodeRow) -> PlanFault
+    ensures { λ r. ⌜ ((kinds place : ℕ) → RowOf kinds place node (now (row .entry)) → numberOf r ≡ nodeFault kinds place node) ⌝ }
 {
     if !forms::is_within(node.operator, Node::OR, Node::ABSENCE) {
         return PlanFault::Operator;
@@ -337,12 +358,13 @@ fn node_fault(node: Node, kinds: usize, place: usize) -> PlanFault
     if !forms::is_within(node.context, Node::RECENT, Node::CUMULATIVE) {
         return PlanFault::Context;
     }
-    let inputs = are_inputs(kinds, place, node);
-    let third = is_third(kinds, place, node);
-    if !inputs {
+    if row[LEFT] == NO_SLOT {
         return PlanFault::Input;
     }
-    if !third {
+    if row[MIDDLE] == NO_SLOT {
+        return PlanFault::Input;
+    }
+    if !is_third(node, row[THIRD]) {
         return PlanFault::ThirdInput;
     }
     PlanFault::None
@@ -362,24 +384,12 @@ fn node_at(bytes: &[u8], at: usize) -> Node
     }
 }
 
-// The row of a node.
-fn row_of(n: Node) -> [u16; 5]
-    requires { ⌜ node .fits n ⌝ }
-    ensures { λ r. ⌜ nodeOf r ≡ n ⌝ }
-{
-    [
-        n.operator as u16,
-        n.context as u16,
-        n.left as u16,
-        n.middle as u16,
-        n.third as u16,
-    ]
-}
-
-fn read_node(bytes: &[u8], at: usize, kinds: usize, place: usize) -> NodeRead
+// The row that is lent is filled before the node is judged: after a fault it says nothing.
+fn read_node(bytes: &[u8], at: usize, kinds: usize, place: usize, row: &mut NodeRow) -> NodeRead
+    requires { ⌜ (kinds ≤ 32) × (place < 16) ⌝ }
     ensures { λ r. ⌜ (seen (numberOf (r .fault)) (r .node) (r .at)
         ≡ piece node (numberOf PlanFault.CutShort) (nodeFault kinds place) (now (bytes .entry)) at)
-        × node .fits (r .node) ⌝ }
+        × (numberOf (r .fault) ≡ 0 → (nodeOf (now (row .exit)) ≡ r .node) × SlotsBelow place (now (row .exit))) ⌝ }
 {
     if forms::left(bytes, at) < Node::WIDTH {
         return NodeRead {
@@ -389,7 +399,8 @@ fn read_node(bytes: &[u8], at: usize, kinds: usize, place: usize) -> NodeRead
         };
     }
     let node = node_at(bytes, at);
-    let fault = node_fault(node, kinds, place);
+    *row = row_of(node, kinds, place);
+    let fault = node_fault(node, row);
     if !fault.is_none() {
         return NodeRead { fault, node, at };
     }
@@ -401,7 +412,8 @@ fn read_node(bytes: &[u8], at: usize, kinds: usize, place: usize) -> NodeRead
 }
 
 fn read_nodes(bytes: &[u8], start: usize, kinds: usize, into: &mut Nodes) -> CountRead
-    ensures { λ r. ⌜ Filled (nodes kinds) (now (bytes .entry)) start r (map nodeOf (now (into .exit))) ⌝ }
+    requires { ⌜ kinds ≤ 32 ⌝ }
+    ensures { λ r. ⌜ Filled (nodes kinds) (now (bytes .entry)) start r (map nodeOf (now (into .exit))) × Slotted (r .count) (now (into .exit)) ⌝ }
 {
     let places = into[..].len();
     let counted = read_number(bytes, start, 2, 1, MAX_NODES, PlanFault::NodeCount);
@@ -413,13 +425,11 @@ fn read_nodes(bytes: &[u8], start: usize, kinds: usize, into: &mut Nodes) -> Cou
     let mut at = counted.at;
     let mut i: usize = 0;
     while i < count {
-        let n = read_node(bytes, at, kinds, i);
+        let n = read_node(bytes, at, kinds, i, &mut into[i]);
         let fault = n.fault;
         if !fault.is_none() {
             return CountRead::stopped(fault, n.at);
         }
-        let node = n.node;
-        into[i] = row_of(node);
         at = n.at;
         i += 1;
     }
@@ -433,7 +443,7 @@ fn read_nodes(bytes: &[u8], start: usize, kinds: usize, into: &mut Nodes) -> Cou
 // ---- the whole file
 fn turned_back(fault: PlanFault, place: usize) -> PlanRead
     ensures { λ r. ⌜ ((loggers kinds : List ℕ) (nodes : List (List ℕ)) → answerOf r loggers kinds nodes ≡ refused (numberOf fault) place)
-        × (r .«logger_count» ≤ 8) × (r .«kind_count» ≤ 32) × (r .«node_count» ≤ 16) ⌝ }
+        × (r .«logger_count» ≤ 8) × (r .«kind_count» ≤ 32) × (r .«node_count» ≡ 0) ⌝ }
 {
     PlanRead {
         fault,
@@ -453,7 +463,7 @@ pub fn read_plan(
     nodes: &mut Nodes,
 ) -> PlanRead
     ensures { λ r. ⌜ (answerOf r (now (loggers .exit)) (now (kinds .exit)) (now (nodes .exit)) ≡ readPlan (now (bytes .entry)))
-        × (r .«logger_count» ≤ 8) × (r .«kind_count» ≤ 32) × (r .«node_count» ≤ 16) ⌝ }
+        × (r .«logger_count» ≤ 8) × (r .«kind_count» ≤ 32) × (r .«node_count» ≤ 16) × Slotted (r .«node_count») (now (nodes .exit)) ⌝ }
 {
     let c = read_clocks(bytes, 0);
     let fault = c.fault;

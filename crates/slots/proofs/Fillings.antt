@@ -11,9 +11,10 @@ use lib.Seq.{getD-set-other, getD-set-same}
 use Rattle.plans.specs.declared.Node.{Node}
 use Rattle.plans.specs.Layout.{inputsOf}
 use Rattle.plans.specs.Limits.{noNode}
+use Rattle.plans.specs.Views.{slotAt}
 use Rattle.arrivals.specs.Meetings.{actionFrom, mayWait}
 use Rattle.operators.specs.Table.{actionOf}
-use Rattle.progress.specs.Seats.{InputsSeated, listEnd, listStart, placesAt, roomOf, seatAction, seatSlot, slotAt}
+use Rattle.progress.specs.Seats.{InputsSeated, listEnd, listStart, placesAt, roomOf, seatAction, seatSlot}
 use Rattle.progress.proofs.Inputs.{slot-most}
 use Rattle.progress.proofs.Parts.{places-most, room-most, room-third}
 use Rattle.slots.specs.Steps.{AllInputs, Filling, roomAt, startAt, total}

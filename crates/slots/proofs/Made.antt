@@ -9,9 +9,8 @@ use lib.Seq.{getD-set-other, getD-set-same, getD-take}
 use Rattle.plans.specs.declared.Node.{Node}
 use Rattle.plans.specs.Layout.{inputsOf}
 use Rattle.plans.specs.Limits.{noNode}
-use Rattle.plans.specs.Views.{nodeOf}
-use Rattle.progress.specs.Seats.{InputsSeated, Seated, listEnd, madeRoom, madeStart, seatContext, slotAt}
-use Rattle.progress.proofs.Inputs.{slot-most}
+use Rattle.plans.specs.Views.{inputFrom, nodeOf}
+use Rattle.progress.specs.Seats.{InputsSeated, Seated, listEnd, madeRoom, madeStart, seatContext}
 use Rattle.progress.proofs.Parts.{made-room-most}
 use Rattle.slots.specs.Steps.{AllInputs, AllSeated, total}
 use Rattle.slots.proofs.Fillings.{total-most, total-next}
@@ -27,16 +26,14 @@ module _ (n : ℕ) (rows : List (List ℕ)) where
   nodes-size h = simp (length-map, length-take) (omega arith)
 
   pub node-at : (k : ℕ) → k < n → getD (firstNodes n rows) k noNode ≡ nodeOf (getD rows k [])
+  unfolding inputFrom
   node-at k h = List·getD-map nodeOf (take n rows) k [] ∙ ap nodeOf (getD-take n rows k [] h)
 
-pub node-input : (row : List ℕ) (i : ℕ) → i < 3 → getD row (2 + i) 0 ≡ getD (inputsOf (nodeOf row)) i 0
+pub node-input : (row : List ℕ) (i : ℕ) → i < 3 → inputFrom (getD row (2 + i) 0) ≡ getD (inputsOf (nodeOf row)) i 0
 node-input row zero h = refl
 node-input row (suc zero) h = refl
 node-input row (suc (suc zero)) h = refl
 node-input row (suc (suc (suc i))) h = absurd (omega arith)
-
-pub slot-in : (k input slot : ℕ) → slot ≡ slotAt k input → slot ≤ k + 33
-slot-in k input slot e = omega (arith, slot-most k input)
 
 -- ---- the inputs stay as they are
 module _ (nodes : List Node) (places takers seats : List ℕ) (k a v : ℕ) (least : 11 * k ≤ a) (most : a < 11 * k + 2) (in-nodes : k ≤ length nodes) where

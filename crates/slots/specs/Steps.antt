@@ -8,9 +8,10 @@ use Rattle.event_sets.specs.Sets.{isSet}
 use Rattle.plans.specs.declared.Node.{Node}
 use Rattle.plans.specs.Layout.{inputsOf}
 use Rattle.plans.specs.Limits.{noNode}
+use Rattle.plans.specs.Views.{slotAt}
 use Rattle.arrivals.specs.Meetings.{actionFrom, mayWait}
 use Rattle.operators.specs.Table.{actionOf}
-use Rattle.progress.specs.Seats.{InputsSeated, Seated, Takers, listStart, placesAt, roomOf, seatAction, seatSlot, slotAt}
+use Rattle.progress.specs.Seats.{InputsSeated, Seated, Takers, listStart, placesAt, roomOf, seatAction, seatSlot}
 
 -- ---- where the lists begin
 -- the sum of the first n values

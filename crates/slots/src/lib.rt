@@ -10,9 +10,9 @@ ghost use lib.Count.{trailingZeros};
 ghost use lib.ListN.{getD, length, replicate, take};
 ghost use Rattle.plans.specs.declared.Node.{Node};
 ghost use Rattle.plans.specs.Limits.{noNode};
-ghost use Rattle.plans.specs.Views.{nodeOf};
+ghost use Rattle.plans.specs.Views.{Slotted, SlotsBelow, nodeOf};
 ghost use Rattle.arrivals.specs.Meetings.{actionFrom, mayWait};
-ghost use Rattle.progress.specs.Seats.{Enough, dueAfter, madeRoom, placesAt, roomOf, slotAt};
+ghost use Rattle.progress.specs.Seats.{Enough, dueAfter, madeRoom, placesAt, roomOf};
 ghost use Rattle.slots.specs.Steps.{AllInputs, AllSeated, Filling};
 
 // For each node eleven numbers: its context; where what it makes begins; and for each input what an arrival does, its slot, and where those that wait begin.
@@ -96,22 +96,6 @@ fn made_room(takers: u16) -> u16
 
 // ---- seats
 
-// Where what arrives by an input of node k is counted: at its place for a kind, past the kinds for an earlier node; any other input where nothing is.
-fn slot_of(input: u16, k: usize) -> u8
-    requires { ⌜ k < 16 ⌝ }
-    ensures { λ r. ⌜ r ≡ slotAt k input ⌝ }
-{
-    if input < 33 {
-        input as u8
-    } else if input < 32768 {
-        33
-    } else if input - 32768 < k as u16 {
-        (input - 32768) as u8 + 34
-    } else {
-        33
-    }
-}
-
 // The inputs of node k: their part of its seat, and the node among the takers of their slots. The lists begin where those of the node before end; where they
 // end is returned.
 fn seat_inputs(
@@ -122,7 +106,8 @@ fn seat_inputs(
     seats: &mut Seats,
     takers: &mut SlotTakers,
 ) -> u16
-    requires { ⌜ (k < 16) × (start ≤ 34 * k) × ((q : ℕ) → getD (now places) q 0 ≤ 16) × (length (now seats) ≡ 187) × (length (now takers) ≡ 50) ⌝ }
+    requires { ⌜ (k < 16) × (start ≤ 34 * k) × ((q : ℕ) → getD (now places) q 0 ≤ 16) × (length (now seats) ≡ 187) × (length (now takers) ≡ 50)
+        × SlotsBelow k (now row) ⌝ }
     ensures { λ r. ⌜ ((nodes : List Node) → getD nodes k noNode ≡ nodeOf (now (row .entry))
         → Filling (now (places .entry)) nodes k 0 (now (seats .entry)) (now (takers .entry)) start
         → Filling (now (places .entry)) nodes (k + 1) 0 (now (seats .exit)) (now (takers .exit)) r) ⌝ }
@@ -133,7 +118,7 @@ fn seat_inputs(
     while i < 3 {
         let at = SEAT * k + INPUT * i;
         let action = actions[i];
-        let slot = slot_of(row[plans::INPUTS + i], k);
+        let slot = row[plans::INPUTS + i] as u8;
         let q = slot as usize;
         takers[q] = takers[q] | 1u16 << k;
         seats[at + ACTION] = action;
@@ -153,7 +138,8 @@ pub fn seat_nodes(
     seats: &mut Seats,
     takers: &mut SlotTakers,
 )
-    requires { ⌜ (n ≤ 16) × ((q : ℕ) → getD (now places) q 0 ≤ 16) × (now seats ≡ replicate 187 0) × (now takers ≡ replicate 50 0) ⌝ }
+    requires { ⌜ (n ≤ 16) × ((q : ℕ) → getD (now places) q 0 ≤ 16) × (now seats ≡ replicate 187 0) × (now takers ≡ replicate 50 0)
+        × Slotted n (now nodes) ⌝ }
     ensures { λ _. ⌜ AllInputs (map nodeOf (take n (now (nodes .entry)))) (now (places .entry)) (now (takers .exit)) (now (seats .exit)) ⌝ }
 {
     // The array as a slice is what tells the proof its length.

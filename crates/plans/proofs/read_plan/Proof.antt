@@ -2,6 +2,7 @@
 use mathlib.Core.Path.{_≡_, sym, _∙_}
 use mathlib.Core.List.{List, [], _∷_, map}
 use Prim.Native.Nat.{ℕ}
+use native.Mathlib.Omega.{arith}
 use lib.ListN.{take}
 use borrow.Author.Tests.{not-true, not-false}
 use Rattle.sequences.proofs.Arrays.{map-take}
@@ -10,6 +11,7 @@ use Rattle.forms.proofs.Pieces.{seen-got, seen-bad}
 use Rattle.plans.specs.Reader.{clocks, loggers, kinds, nodes}
 use Rattle.plans.specs.Views.{nodeOf}
 use Rattle.plans.proofs.Whole.{bad-clocks, bad-loggers, bad-kinds, bad-nodes, bytes-remain, whole-plan}
+use Rattle.plans.proofs.Slots.{slotted-none}
 use borrow.Author.Needs.{needs}
 use Rattle.plans.proofs.read_plan.Statement.{statement}
 use Rattle.plans.proofs.read_plan.Tie as tie
@@ -52,7 +54,7 @@ kinds-got c = seen-got _ _ _ _ (c .before .before .read-kinds .ensures .is) (sym
 
 nodes-got : (c : tie.Else4) → let k = c .before .before .before .before .before .before .read-kinds .result in
     section (nodes (k .count)) (bytes₄ c) (k .at) ≡ got (take (c .before .before .read-nodes .result .count) (map nodeOf (nodes-in c))) (c .before .before .read-nodes .result .at)
-nodes-got c = seen-got _ _ _ _ (c .before .before .read-nodes .ensures .is) (sym (c .before .is-none4 .ensures) ∙ not-false _ (c .if4 .left))
+nodes-got c = seen-got _ _ _ _ (c .before .before .read-nodes .ensures .0 .is) (sym (c .before .is-none4 .ensures) ∙ not-false _ (c .if4 .left))
 
 read-clocks-requires : tie.Need-read-clocks-requires
 read-clocks-requires c κs = search needs
@@ -70,7 +72,8 @@ returns c =
       z .0 _ _ _ ∙ bad-clocks (t .before .before .before .before .args .bytes .now) _ _ (seen-bad _ _ _ _ (t .before .before .read-clocks .ensures) (sym (t .before .is-none .ensures) ∙ not-true _ (t .if1 .taken))),
       z .1,
       z .2,
-      z .3,
+      omega (arith, z .3),
+      slotted-none _ _ (z .3),
     )
 
 read-loggers-requires : tie.Need-read-loggers-requires
@@ -91,7 +94,8 @@ returns-2 c =
           ∙ bad-loggers (bytes₁ e₁) _ _ (clocks-got e₁) _ _ (seen-bad _ _ _ _ (t .before .before .read-loggers .ensures .is) (sym (t .before .is-none2 .ensures) ∙ not-true _ (t .if2 .taken))),
       z .1,
       z .2,
-      z .3,
+      omega (arith, z .3),
+      slotted-none _ _ (z .3),
     )
 
 read-kinds-requires : tie.Need-read-kinds-requires
@@ -113,11 +117,12 @@ returns-3 c =
           ∙ bad-kinds (bytes₁ e₁) _ _ (clocks-got e₁) _ _ (loggers-got e₂) _ _ (seen-bad _ _ _ _ (t .before .before .read-kinds .ensures .is) (sym (t .before .is-none3 .ensures) ∙ not-true _ (t .if3 .taken))),
       z .1,
       z .2,
-      z .3,
+      omega (arith, z .3),
+      slotted-none _ _ (z .3),
     )
 
 read-nodes-requires : tie.Need-read-nodes-requires
-read-nodes-requires c κs = search needs
+read-nodes-requires c κs = c .before .before .before .read-kinds .ensures .most
 
 is-none-requires-4 : tie.Need-is-none-requires-4
 is-none-requires-4 c κs = search needs
@@ -134,10 +139,11 @@ returns-4 c =
     let z = c .turned-back4 .ensures in (
       z .0 _ _ _
           ∙ bad-nodes (bytes₁ e₁) _ _ (clocks-got e₁) _ _ (loggers-got e₂) _ _ (kinds-got e₃) _ (e₃ .before .before .read-kinds .ensures .holds) _ _
-          (seen-bad _ _ _ _ (t .before .before .read-nodes .ensures .is) (sym (t .before .is-none4 .ensures) ∙ not-true _ (t .if4 .taken))),
+          (seen-bad _ _ _ _ (t .before .before .read-nodes .ensures .0 .is) (sym (t .before .is-none4 .ensures) ∙ not-true _ (t .if4 .taken))),
       z .1,
       z .2,
-      z .3,
+      omega (arith, z .3),
+      slotted-none _ _ (z .3),
     )
 
 turned-back-requires-5 : tie.Need-turned-back-requires-5
@@ -154,7 +160,8 @@ returns-5 c =
           ∙ bytes-remain (bytes₁ e₁) _ _ (clocks-got e₁) _ _ (loggers-got e₂) _ _ (kinds-got e₃) _ (e₃ .before .before .read-kinds .ensures .holds) _ _ (nodes-got e₄) (c .before .if5 .taken),
       z .1,
       z .2,
-      z .3,
+      omega (arith, z .3),
+      slotted-none _ _ (z .3),
     )
 
 returns-6 : tie.Need-returns-6
@@ -167,7 +174,8 @@ returns-6 c =
           (whole-plan (bytes₁ e₁) _ _ (clocks-got e₁) _ _ (loggers-got e₂) _ _ (kinds-got e₃) _ (e₃ .before .before .read-kinds .ensures .holds) _ _ (nodes-got e₄) (c .if5 .left)),
       e₂ .before .before .read-loggers .ensures .most,
       e₃ .before .before .read-kinds .ensures .most,
-      e₄ .before .before .read-nodes .ensures .most,
+      e₄ .before .before .read-nodes .ensures .0 .most,
+      e₄ .before .before .read-nodes .ensures .1,
     )
 
 pub read-plan-spec : {M : Type 1} → statement M

@@ -1,16 +1,16 @@
 -- The inputs before i are seated, whatever the other nodes are.
 use mathlib.Core.List.{List}
 use mathlib.Core.Path.{_≡_, ap, _∙_}
-use Prim.Native.Nat.{_≤_, _+_, _-_, _*_}
+use Prim.Native.Nat.{_≤_, _<_, _+_, _-_, _*_}
 use native.Mathlib.Omega.{arith}
 use lib.ListN.{getD, length, length-set}
 use Rattle.plans.specs.declared.Node.{Node}
 use Rattle.plans.specs.Limits.{noNode}
-use Rattle.plans.specs.Views.{nodeOf}
-use Rattle.progress.specs.Seats.{slotAt}
+use Rattle.plans.specs.Views.{nodeOf, slotAt}
+use Rattle.plans.proofs.Slots.{slot-same}
 use Rattle.slots.specs.Steps.{Filling}
 use Rattle.slots.proofs.Fillings.{filling-next, filling-turn}
-use Rattle.slots.proofs.Made.{node-input, slot-in}
+use Rattle.slots.proofs.Made.{node-input}
 use Rattle.slots.proofs.Takers.{one-shl}
 use borrow.Author.Needs.{needs}
 use Rattle.slots.proofs.seat_inputs.Statement.{statement}
@@ -23,6 +23,10 @@ Inv-loop row k start places seats₀ takers₀ actions l₀ i₀ seats takers l 
 
 abbrev μ-loop : tie.MeasureT-loop
 μ-loop row k start places seats₀ takers₀ actions l₀ i₀ seats takers l i = 3 - i
+
+-- the slot in the row
+small : (c : tie.After-slot Inv-loop μ-loop) → getD (c .before .before .before .before .before .args .row .now) (2 + c .before .before .loop .i) 0 < 50
+small c = let pre = c .before .before .before .before .before .pre in omega (arith, pre .5 (c .before .before .loop .i) (omega arith))
 
 element-copy-out-actions-of : tie.Need-element-copy-out-actions-of Inv-loop μ-loop
 element-copy-out-actions-of c = search needs
@@ -48,26 +52,26 @@ mul-action c = search needs
 array-read-action : tie.Need-array-read-action Inv-loop μ-loop
 array-read-action c = search needs
 
-add-slot-of : tie.Need-add-slot-of Inv-loop μ-loop
-add-slot-of c = search needs
+add-slot : tie.Need-add-slot Inv-loop μ-loop
+add-slot c = search needs
 
-mul-slot-of : tie.Need-mul-slot-of Inv-loop μ-loop
-mul-slot-of c = search needs
+mul-slot : tie.Need-mul-slot Inv-loop μ-loop
+mul-slot c = search needs
 
-element-copy-out-slot-of : tie.Need-element-copy-out-slot-of Inv-loop μ-loop
-element-copy-out-slot-of c = search needs
+element-copy-out-slot : tie.Need-element-copy-out-slot Inv-loop μ-loop
+element-copy-out-slot c = search needs
 
-slot-of-requires : tie.Need-slot-of-requires Inv-loop μ-loop
-slot-of-requires c κs = search needs
+cast-slot : tie.Need-cast-slot Inv-loop μ-loop
+cast-slot c = omega (arith, small c)
 
 cast-q : tie.Need-cast-q Inv-loop μ-loop
-cast-q c = search needs
+cast-q c = omega (arith, small c)
 
 mul-takers : tie.Need-mul-takers Inv-loop μ-loop
-mul-takers c = search needs
+mul-takers c = omega (arith, small c)
 
 element-copy-out-takers : tie.Need-element-copy-out-takers Inv-loop μ-loop
-element-copy-out-takers c = omega (arith, slot-in _ _ _ (c .slot-of .ensures))
+element-copy-out-takers c = small c
 
 cast-takers : tie.Need-cast-takers Inv-loop μ-loop
 cast-takers c = search needs
@@ -76,10 +80,10 @@ shl-takers : tie.Need-shl-takers Inv-loop μ-loop
 shl-takers c = search needs
 
 mul-takers-2 : tie.Need-mul-takers-2 Inv-loop μ-loop
-mul-takers-2 c = search needs
+mul-takers-2 c = omega (arith, small (c .before))
 
 element-write-takers : tie.Need-element-write-takers Inv-loop μ-loop
-element-write-takers c = omega (arith, slot-in _ _ _ (c .before .slot-of .ensures))
+element-write-takers c = small (c .before)
 
 add-seats : tie.Need-add-seats Inv-loop μ-loop
 add-seats c = search needs
@@ -91,7 +95,7 @@ element-write-seats : tie.Need-element-write-seats Inv-loop μ-loop
 element-write-seats c = search needs
 
 cast-seats : tie.Need-cast-seats Inv-loop μ-loop
-cast-seats c = search needs
+cast-seats c = omega (arith, small (c .before))
 
 add-seats-2 : tie.Need-add-seats-2 Inv-loop μ-loop
 add-seats-2 c = search needs
@@ -125,17 +129,18 @@ loop-less c = search needs
 
 loop-again : tie.Need-loop-again Inv-loop μ-loop
 loop-again c =
-    let t = c .before .before .before .before in
+    let t = c .before .before .before in
     let s = t .before .loop in
     let before = t .before .before in
-    let args = before .before .before .args in (
+    let args = before .before .before .args in
+    let pre = before .before .before .pre in (
       search needs,
       simp length-set (s .inv .1),
       simp length-set (s .inv .2),
       search needs,
       λ nodes e f. filling-turn _ nodes _ _ _ _ _ _ _ _ _ (s .inv .4 nodes e f) (search needs) (search needs)
           (rw e (before .actions-of .ensures .1 (s .i) (search needs)))
-          (c .before .before .slot-of .ensures ∙ rw e (ap (slotAt (args .k)) (node-input (args .row .now) (s .i) (search needs))))
+          (slot-same (args .k) _ (pre .0) (pre .5 (s .i) (search needs)) ∙ rw e (ap (slotAt (args .k)) (node-input (args .row .now) (s .i) (search needs))))
           (c .room-of .ensures .0) (one-shl (args .k) (search needs)),
     )
 
@@ -159,10 +164,10 @@ seat-inputs-spec =
     add-at
     mul-action
     array-read-action
-    add-slot-of
-    mul-slot-of
-    element-copy-out-slot-of
-    slot-of-requires
+    add-slot
+    mul-slot
+    element-copy-out-slot
+    cast-slot
     cast-q
     mul-takers
     element-copy-out-takers

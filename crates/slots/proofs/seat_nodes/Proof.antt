@@ -5,6 +5,7 @@ use native.Mathlib.Omega.{arith}
 use Rattle.slots.specs.Steps.{Filling}
 use Rattle.slots.proofs.Fillings.{filling-all, filling-most, filling-start}
 use Rattle.slots.proofs.Made.{firstNodes, node-at, nodes-size}
+use Rattle.plans.proofs.Slots.{slotted-at}
 use borrow.Author.Needs.{needs}
 use Rattle.slots.proofs.seat_nodes.Statement.{statement}
 use Rattle.slots.proofs.seat_nodes.Tie as tie
@@ -29,7 +30,7 @@ seat-inputs-requires c κs =
     let a = c .before .before .before .before in
     let pre = a .before .before .pre in
     let f = a .loop .inv .1 in
-    (search needs, filling-most _ _ _ _ _ _ (pre .1) f, pre .1, f .size, f .taken .size)
+    (search needs, filling-most _ _ _ _ _ _ (pre .1) f, pre .1, f .size, f .taken .size, slotted-at _ _ (pre .4) (a .loop .k) (c .before .before .before .loop-test .taken))
 
 add-k : tie.Need-add-k Inv-loop μ-loop
 add-k c = search needs
