@@ -10,7 +10,7 @@ use Rattle.forms.specs.Bytes.{Bytes}
 use Rattle.plans.specs.Layout.{Plan}
 use Rattle.plans.specs.Faults.{numberOf as planNumber}
 use Rattle.plans.specs.Reader.{PlanAnswer, readPlan}
-use Rattle.plans.specs.Views.{answerOf}
+use Rattle.plans.specs.Views.{Slotted, answerOf}
 use Rattle.plans.specs.declared.PlanRead.{PlanRead}
 use Rattle.plans.proofs.Theorems.{accepted-ok}
 use Rattle.passages.specs.Events.{passageEvents}
@@ -27,8 +27,8 @@ use Rattle.working.specs.Working.{endOf, planWorked, turnedBack}
 
 -- what is known of a plan that was read
 pub read-held : (b : List ℕ) (r : PlanRead) (loggers kinds : List ℕ) (nodes : List (List ℕ)) → Bytes b → answerOf r loggers kinds nodes ≡ readPlan b
-    → r .«logger_count» ≤ 8 → r .«kind_count» ≤ 32 → r .«node_count» ≤ 16 → PlanHeld r loggers kinds
-read-held b r loggers kinds nodes B e l k n = record { loggers-most = l; kinds-most = k; nodes-most = n; rising = rising }
+    → r .«logger_count» ≤ 8 → r .«kind_count» ≤ 32 → r .«node_count» ≤ 16 → Slotted (r .«node_count») nodes → PlanHeld r loggers kinds nodes
+read-held b r loggers kinds nodes B e l k n s = record { loggers-most = l; kinds-most = k; nodes-most = n; slotted = s; rising = rising }
   where
     rising : planNumber (r .fault) ≡ 0 → RisingByPlace (take (r .«kind_count») kinds) × RisingByPlace (take (r .«logger_count») loggers)
     rising z =

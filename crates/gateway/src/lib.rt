@@ -16,6 +16,7 @@ ghost use mathlib.Core.Path.{_≡_};
 ghost use Prim.Native.Nat.{ℕ, _≤_, _<_};
 ghost use lib.ListN.{getD, replicate};
 ghost use Rattle.sequences.specs.Choice.{pick};
+ghost use Rattle.plans.specs.Views.{Slotted};
 ghost use Rattle.passages.specs.Views.{Room};
 ghost use Rattle.emissions.specs.Emissions.{reached};
 ghost use Rattle.progress.specs.Progress.{Progress};

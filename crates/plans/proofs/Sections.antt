@@ -1,7 +1,7 @@
 -- Laws of the plan's entries and sections, as the code's proofs cite them.
 use mathlib.Core.Path.{_≡_, refl, sym, ap}
 use mathlib.Core.List.{List, [], _∷_, _++_}
-use mathlib.Core.Bool.{Bool, true, false, _&&_, true≢false}
+use mathlib.Core.Bool.{Bool, true, false, _&&_}
 use Prim.Native.Nat.{ℕ, _+_, _<_}
 use native.Mathlib.Numerals.{add-one}
 use native.Mathlib.Omega.{arith}
@@ -40,12 +40,6 @@ rising-piece cut wrong b at least l B e =
     go false u k = refl
 
 -- ---- nodes
--- two tests with one fault
-pub unless-both : (t u : Bool) (fault next : ℕ) → (t && u) ≡ false → unless t fault (unless u fault next) ≡ fault
-unless-both true true fault next h = absurd (true≢false h)
-unless-both true false fault next h = refl
-unless-both false u fault next h = refl
-
 pub node-laws : Laws node
 node-laws =
     let two = pair (number 2) (number 2) in

@@ -2,7 +2,7 @@
 use mathlib.Core.Bool.{true, false, true≢false}
 use mathlib.Core.List.{List, []}
 use mathlib.Core.Logic.{⊎-elim}
-use mathlib.Core.Path.{_≡_, refl, sym, ap, _∙_}
+use mathlib.Core.Path.{_≡_, refl, sym, _∙_}
 use Prim.Native.Nat.{ℕ, zero, suc, _+_, _-_, _≤_, _<_}
 use native.Mathlib.Decide.{decLt, ℕ-discrete}
 use native.Mathlib.Omega.{arith}
@@ -73,7 +73,7 @@ module _ (kinds place : ℕ) (n : Node) (row : List ℕ) (r : RowOf kinds place 
       let left = slot-gives kinds place (n .left) (getD row 2 0) (r .left) (ok-input kinds place (n .left) (k .left)) in
       let middle = slot-gives kinds place (n .middle) (getD row 3 0) (r .middle) (ok-input kinds place (n .middle) (k .middle)) in
       let third = ⊎-elim (λ t. slot-none kinds place (n .third) (getD row 4 0) (r .third) few early (t .1))
-              (λ t. slot-gives kinds place (n .third) (getD row 4 0) (r .third) (ok-input kinds place (n .third) (t .1))) (k .third) in
+      (λ t. slot-gives kinds place (n .third) (getD row 4 0) (r .third) (ok-input kinds place (n .third) (t .1))) (k .third) in
       rw (r .operator, r .context, left, middle, third)
 
   pub row-below : SlotsBelow place row

@@ -18,11 +18,11 @@ read-plan-requires : tie.Need-read-plan-requires
 read-plan-requires c κs = search needs
 
 -- the plan as it was read
-held-of : (p : tie.After-read-plan) → PlanHeld (p .read-plan .result) (p .read-plan .last .1 .0) (p .read-plan .last .1 .1 .0)
+held-of : (p : tie.After-read-plan) → PlanHeld (p .read-plan .result) (p .read-plan .last .1 .0) (p .read-plan .last .1 .1 .0) (p .read-plan .last .1 .1 .1 .0)
 held-of p =
     let known = p .before .before .before .before .before .before in
     let e = p .read-plan .ensures in
-    read-held (p .before .before .before .before .before .before .before .args .plan .now) (p .read-plan .result) _ _ (p .read-plan .last .1 .1 .1 .0) (λ i. omega (arith, known .shared-slice-known .given i)) (e .0) (e .1) (e .2) (e .3)
+    read-held (p .before .before .before .before .before .before .before .args .plan .now) (p .read-plan .result) _ _ (p .read-plan .last .1 .1 .1 .0) (λ i. omega (arith, known .shared-slice-known .given i)) (e .0) (e .1) (e .2) (e .3) (e .4)
 
 work-in-tables-requires : tie.Need-work-in-tables-requires
 work-in-tables-requires c κs = held-of (c .before .before .before .before)

@@ -102,7 +102,7 @@ run-in-rows-requires c κs =
     let q = c .before .before .before .before .before .before .before .before .before .before .before .before .before .check-passage in
     let checked = q .ensures (a .plan) refl refl refl in
     let passed : numberOf (q .result .fault) ≡ 0 = eqb-true _ _ (sym (c .before .before .before .before .before .before .before .before .is-none2 .ensures) ∙ not-false _ (c .before .before .before .before .before .before .before .if2 .left)) in
-    (s .pre .0 .nodes-most, (planClocks (a .plan), noted-themselves _ _ _ _ _ _ _ (checked .1 passed)))
+    (s .pre .0 .nodes-most, (planClocks (a .plan), noted-themselves _ _ _ _ _ _ _ (checked .1 passed)), s .pre .0 .slotted)
 
 ended-requires : tie.Need-ended-requires
 ended-requires c κs = search needs

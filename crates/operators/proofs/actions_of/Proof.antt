@@ -1,6 +1,5 @@
 -- By the operator.
 use Rattle.operators.proofs.Table.{absence-says, accumulated-says, and-says, aperiodic-says, or-says, seq-says}
-use borrow.Author.Needs.{needs}
 use Rattle.operators.proofs.actions_of.Statement.{statement}
 use Rattle.operators.proofs.actions_of.Tie as tie
 

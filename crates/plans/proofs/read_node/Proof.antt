@@ -62,8 +62,10 @@ returns-3 c =
     let fault : numberOf (f .result) ≡ nodeFault (a .kinds) (a .place) (n .result) = f .ensures (a .kinds) (a .place) (w .ensures) in
     let good = sym (c .before .is-none .ensures) ∙ not-false _ (c .if2 .left) in (
       seen-right node 1 (nodeFault (a .kinds) (a .place)) (a .bytes .now) (a .at) (n .result) (omega arith) (n .ensures .0) (ap (λ k. eqb k 0) (sym fault) ∙ good),
-      λ z. (row-gives (a .kinds) (a .place) (n .result) _ (w .ensures) (e .pre .0) (e .pre .1) (sym fault ∙ eqb-true (numberOf (f .result)) 0 good),
-        row-below (a .kinds) (a .place) (n .result) _ (w .ensures)),
+      λ z. (
+        row-gives (a .kinds) (a .place) (n .result) _ (w .ensures) (e .pre .0) (e .pre .1) (sym fault ∙ eqb-true (numberOf (f .result)) 0 good),
+        row-below (a .kinds) (a .place) (n .result) _ (w .ensures),
+      ),
     )
 
 pub read-node-spec : {M : Type 1} → statement M

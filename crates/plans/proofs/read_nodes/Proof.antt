@@ -43,12 +43,14 @@ returns c =
     let t = c .before in
     let r = t .before .before .read-number in
     let a = t .before .before .before .before .before .before .args in
-    rw (c .stopped .ensures)
-    (record {
-      is = count-stop (nodes (a .kinds)) (a .bytes .now) (a .start) _ _ _ (r .ensures .0) (sym (t .before .is-none .ensures) ∙ not-true _ (t .if1 .taken)) [];
-      most = search needs;
-      holds = refl;
-    }, slotted-none _ _ refl)
+    rw (c .stopped .ensures) (
+      record {
+        is = count-stop (nodes (a .kinds)) (a .bytes .now) (a .start) _ _ _ (r .ensures .0) (sym (t .before .is-none .ensures) ∙ not-true _ (t .if1 .taken)) [];
+        most = search needs;
+        holds = refl;
+      },
+      slotted-none _ _ refl,
+    )
 
 loop-holds : tie.Need-loop-holds Inv-loop μ-loop
 loop-holds c =
@@ -84,12 +86,14 @@ returns-2 c =
     let a = s .before .before .before .before .before .before .before .args in
     let l : List Node = map nodeOf (s .loop .into) in
     let e = r .ensures .0 ∙ node-piece (a .bytes .now) (s .loop .at) 1 (a .kinds) (s .loop .i) (take (s .loop .i) l) (length-take-le (s .loop .i) l (omega arith)) in
-    rw (c .stopped2 .ensures)
-    (record {
-      is = turn-stop (nodes (a .kinds)) (a .bytes .now) _ (s .loop .i) l _ _ (s .loop .inv .3) _ _ _ (search needs) e (sym (t .before .is-none2 .ensures) ∙ not-true _ (t .if2 .taken)) [];
-      most = search needs;
-      holds = refl;
-    }, slotted-none _ _ refl)
+    rw (c .stopped2 .ensures) (
+      record {
+        is = turn-stop (nodes (a .kinds)) (a .bytes .now) _ (s .loop .i) l _ _ (s .loop .inv .3) _ _ _ (search needs) e (sym (t .before .is-none2 .ensures) ∙ not-true _ (t .if2 .taken)) [];
+        most = search needs;
+        holds = refl;
+      },
+      slotted-none _ _ refl,
+    )
 
 add-i : tie.Need-add-i Inv-loop μ-loop
 add-i c = search needs
@@ -123,12 +127,14 @@ returns-3 c =
     let a = s .before .before .before .before .before .before .before .args in
     let n = s .before .before .before .read-number .result .value in
     let l : List Node = map nodeOf (s .loop .into) in
-    let done : n ≡ s .loop .i = omega arith in
-    (record {
-      is = turn-end (nodes (a .kinds)) (a .bytes .now) n (s .loop .i) l _ _ (s .loop .inv .3) (omega arith);
-      most = search needs;
-      holds = length-take-le n l (omega arith);
-    }, rw done (s .loop .inv .4))
+    let done : n ≡ s .loop .i = omega arith in (
+      record {
+        is = turn-end (nodes (a .kinds)) (a .bytes .now) n (s .loop .i) l _ _ (s .loop .inv .3) (omega arith);
+        most = search needs;
+        holds = length-take-le n l (omega arith);
+      },
+      rw done (s .loop .inv .4),
+    )
 
 pub read-nodes-spec : {M : Type 1} → statement M
 read-nodes-spec =
