@@ -67,8 +67,8 @@ pub fn count_kinds(kinds: &Places, count: usize, places: &mut KindPlaces)
     }
 }
 
-// How many places the list of an input is given: one for the list itself; and where arrivals may come to wait, as many as those that can come by its slot, 16 at
-// most. What comes by the third never waits, and has no list.
+// How many places the list of an input is given: one for the list itself; and where arrivals may come to wait, as many as those that can come by its slot, at
+// most 16. What comes by the third never waits, and has no list.
 fn room_of(input: usize, action: u16, slot: u8, places: &KindPlaces) -> u16
     requires { ⌜ ((q : ℕ) → getD (now places) q 0 ≤ 16) ⌝ }
     ensures { λ r. ⌜ (r ≡ roomOf input (mayWait (actionFrom action)) (placesAt (now (places .entry)) slot)) × (r ≤ 17) ⌝ }
