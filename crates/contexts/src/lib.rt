@@ -412,7 +412,8 @@ fn taken_by(rule: u8, list: &[Packed], candidates: u64, ticks: &[u64], globals: 
         return candidates & all_waiting(n);
     }
     if at_most_one(candidates) {
-        return candidates & all_waiting(n);
+        let only = candidates & all_waiting(n);
+        return only;
     }
     let mut lows = [0u64; 16];
     lows_of(list, ticks, globals, &mut lows);
