@@ -2,8 +2,8 @@
 
 use super::Kind;
 
-/// Typical files of eight events and more.
-const TYPICAL: f64 = 1.1;
+/// Typical files of eight events and more, whatever their operators.
+const TYPICAL: f64 = 1.05;
 /// A passage of one event.
 const ONE_EVENT: f64 = 1.7;
 /// The join of a list of 128.
@@ -14,8 +14,8 @@ pub const ANY: f64 = 1.5;
 pub fn of_files(kind: Kind, events: usize) -> f64 {
     match (kind, events) {
         (_, 1) => ONE_EVENT,
-        (Kind::Typical, _) => TYPICAL,
-        _ => ANY,
+        (Kind::Sparse | Kind::Every, _) => ANY,
+        _ => TYPICAL,
     }
 }
 
