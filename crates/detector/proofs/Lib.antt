@@ -4,3 +4,4 @@ pub mod Rows
 pub mod Running
 pub mod Standing
 pub mod Turned
+pub mod Turning

@@ -291,7 +291,7 @@ fn run_in_rows(
     let mut places = [0u8; 34];
     places_for(kind_places, count, &mut places);
     let mut seats = [0u16; 187];
-    let mut takers = [0u16; 50];
+    let mut takers = [0u64; 50];
     slots::seat_nodes(nodes, n, &places, &mut seats, &mut takers);
     slots::seat_made(nodes, n, &takers, &mut seats);
     let l = seats[slots::SEAT * n + slots::LIST];

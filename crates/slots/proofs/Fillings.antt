@@ -109,7 +109,7 @@ module _ (places : List ℕ) (nodes : List Node) where
   -- with input i of node k
   module _ (k i : ℕ) (seats takers : List ℕ) (l action slot room node : ℕ) (f : Filling places nodes k i seats takers l) (in-nodes : k < 16) (in-three : i < 3)
       (does : actionFrom action ≡ actionOf (getD nodes k noNode .operator) i) (looks : slot ≡ slotAt k (getD (inputsOf (getD nodes k noNode)) i 0))
-      (takes : room ≡ roomOf i (mayWait (actionFrom action)) (placesAt places slot)) (bit : node ≡ 2 ^ k) where
+      (takes : room ≡ roomOf i (mayWait (actionFrom action)) (placesAt places slot)) (bit : node ≡ 2 ^ (4 * k + i)) where
     abbrev at : ℕ
     at = 11 * k + 3 * i
 

@@ -30,12 +30,12 @@ unfoldable pub startAt : (places : List ℕ) → List Node → (k i : ℕ) → �
 startAt places nodes k i = total (λ j. total (roomAt places nodes j) 3) k + total (roomAt places nodes k) i
 
 -- ---- while the inputs are seated: those of the nodes before k, and of node k those before i
--- by slot, the nodes that look there by one of these inputs, as bits
+-- by slot, those of these inputs that look there, as bits
 pub record TakersTo (seats : List ℕ) (k i : ℕ) (takers : List ℕ) : Type 0 where
   pub size : length takers ≡ 50
-  pub below : (q j : ℕ) → 3 * k + i ≤ 3 * j → getD takers q 0 < 2 ^ j
-  pub takes : (j h : ℕ) → h < 3 → 3 * j + h < 3 * k + i → (q : ℕ) → q < 50 → seatSlot seats j h ≡ q → isSet (getD takers q 0) j ≡ true
-  pub others : (q j : ℕ) → q < 50 → ((h : ℕ) → h < 3 → 3 * j + h < 3 * k + i → seatSlot seats j h ≡ q → ⊥) → isSet (getD takers q 0) j ≡ false
+  pub below : (q b : ℕ) → 4 * k + i ≤ b → getD takers q 0 < 2 ^ b
+  pub takes : (j h : ℕ) → h < 3 → 3 * j + h < 3 * k + i → (q : ℕ) → q < 50 → seatSlot seats j h ≡ q → isSet (getD takers q 0) (4 * j + h) ≡ true
+  pub others : (q j h : ℕ) → q < 50 → h < 4 → (h < 3 → 3 * j + h < 3 * k + i → seatSlot seats j h ≡ q → ⊥) → isSet (getD takers q 0) (4 * j + h) ≡ false
 
 -- these inputs have their part of the seats, later nodes have none; the next list begins at l
 pub record Filling (places : List ℕ) (nodes : List Node) (k i : ℕ) (seats takers : List ℕ) (l : ℕ) : Type 0 where

@@ -1,5 +1,5 @@
 // The seats of the nodes in a run: for each node its context, where what it makes stands, and for each of its inputs what an arrival does, where arrivals are
-// counted, and where those that wait stand; the nodes that look at each slot; and the nodes that are due in an event.
+// counted, and where those that wait stand; the inputs that look at each slot; and the inputs that are due in an event.
 use passages::Places;
 use plans::NodeRow;
 use plans::Nodes;
@@ -39,8 +39,8 @@ pub const NEXT_LIST: usize = 15;
 
 pub const NEXT_MADE: usize = 12;
 
-// For each slot the nodes that look there, as bits.
-pub type SlotTakers = [u16; 50];
+// For each slot the inputs that look there, as bits: that of input i of node k is bit 4 * k + i.
+pub type SlotTakers = [u64; 50];
 
 // For each kind how many places a list that takes it is given.
 pub type KindPlaces = [u8; 34];
@@ -88,7 +88,7 @@ fn room_of(input: usize, action: u16, slot: u8, places: &KindPlaces) -> u16
 }
 
 // Eight places for what a node makes, if anyone takes it.
-fn made_room(takers: u16) -> u16
+fn made_room(takers: u64) -> u16
     ensures { λ r. ⌜ r ≡ madeRoom takers ⌝ }
 {
     if takers == 0 { 0 } else { 8 }
@@ -96,7 +96,7 @@ fn made_room(takers: u16) -> u16
 
 // ---- seats
 
-// The inputs of node k: their part of its seat, and the node among the takers of their slots. The lists begin where those of the node before end; where they
+// The inputs of node k: their part of its seat, and each among the takers of its slot. The lists begin where those of the node before end; where they
 // end is returned.
 fn seat_inputs(
     row: &NodeRow,
@@ -120,7 +120,7 @@ fn seat_inputs(
         let action = actions[i];
         let slot = row[plans::INPUTS + i] as u8;
         let q = slot as usize;
-        takers[q] = takers[q] | 1u16 << k;
+        takers[q] = takers[q] | 1u64 << (4 * k + i);
         seats[at + ACTION] = action;
         seats[at + SLOT] = slot as u16;
         seats[at + LIST] = l;
@@ -173,24 +173,18 @@ pub fn seat_made(nodes: &Nodes, n: usize, takers: &SlotTakers, seats: &mut Seats
     seats[SEAT * n + MADE] = m;
 }
 
-// ---- the nodes that are due
+// ---- the inputs that are due
 
-// The first of the nodes that are due.
+// The first of the inputs that are due, as a bit's place; 64 where none is.
 pub fn next_due(due: u64) -> usize
     ensures { λ r. ⌜ r ≡ trailingZeros 64 due ⌝ }
 {
     u64::trailing_zeros(due) as usize
 }
 
-// What is due after the turn of the first: the others, and the nodes that take what it made, if it made anything.
-pub fn due_after(due: u64, made: u8, takers: u16) -> u64
-    requires { ⌜ 0 < due ⌝ }
-    ensures { λ r. ⌜ r ≡ dueAfter due made takers ⌝ }
+// What is due after the turn of a node: the rest, and the inputs that take what it made, if it made anything.
+pub fn due_after(rest: u64, made: u8, takers: u64) -> u64
+    ensures { λ r. ⌜ r ≡ dueAfter rest made takers ⌝ }
 {
-    let others = due & (due - 1);
-    if 0 < made {
-        others | takers as u64
-    } else {
-        others
-    }
+    if 0 < made { rest | takers } else { rest }
 }

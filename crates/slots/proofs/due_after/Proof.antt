@@ -5,9 +5,6 @@ use borrow.Author.Needs.{needs}
 use Rattle.slots.proofs.due_after.Statement.{statement}
 use Rattle.slots.proofs.due_after.Tie as tie
 
-sub-others : tie.Need-sub-others
-sub-others c = search needs
-
 returns : tie.Need-returns
 unfolding dueAfter
 returns c = rw (lt-ltb 0 (c .before .args .made) (c .if1 .taken))
@@ -17,4 +14,4 @@ unfolding dueAfter
 returns-2 c = rw (le-ltb 0 (c .before .args .made) (c .if1 .left))
 
 pub due-after-spec : {M : Type 1} → statement M
-due-after-spec = tie.close (tie.spec sub-others returns returns-2)
+due-after-spec = tie.close (tie.spec returns returns-2)

@@ -73,14 +73,17 @@ mul-takers c = omega (arith, small c)
 element-copy-out-takers : tie.Need-element-copy-out-takers Inv-loop μ-loop
 element-copy-out-takers c = small c
 
-cast-takers : tie.Need-cast-takers Inv-loop μ-loop
-cast-takers c = search needs
+mul-takers-2 : tie.Need-mul-takers-2 Inv-loop μ-loop
+mul-takers-2 c = search needs
+
+add-takers : tie.Need-add-takers Inv-loop μ-loop
+add-takers c = search needs
 
 shl-takers : tie.Need-shl-takers Inv-loop μ-loop
 shl-takers c = search needs
 
-mul-takers-2 : tie.Need-mul-takers-2 Inv-loop μ-loop
-mul-takers-2 c = omega (arith, small (c .before))
+mul-takers-3 : tie.Need-mul-takers-3 Inv-loop μ-loop
+mul-takers-3 c = omega (arith, small (c .before))
 
 element-write-takers : tie.Need-element-write-takers Inv-loop μ-loop
 element-write-takers c = small (c .before)
@@ -141,7 +144,7 @@ loop-again c =
       λ nodes e f. filling-turn _ nodes _ _ _ _ _ _ _ _ _ (s .inv .4 nodes e f) (search needs) (search needs)
           (rw e (before .actions-of .ensures .1 (s .i) (search needs)))
           (slot-same (args .k) _ (pre .0) (pre .5 (s .i) (search needs)) ∙ rw e (ap (slotAt (args .k)) (node-input (args .row .now) (s .i) (search needs))))
-          (c .room-of .ensures .0) (one-shl (args .k) (search needs)),
+          (c .room-of .ensures .0) (one-shl (4 * args .k + s .i) (search needs)),
     )
 
 returns : tie.Need-returns Inv-loop μ-loop
@@ -171,9 +174,10 @@ seat-inputs-spec =
     cast-q
     mul-takers
     element-copy-out-takers
-    cast-takers
-    shl-takers
     mul-takers-2
+    add-takers
+    shl-takers
+    mul-takers-3
     element-write-takers
     add-seats
     mul-seats
