@@ -2,7 +2,7 @@
 use mathlib.Core.Bool.{Bool, true, false}
 use mathlib.Core.List.{List}
 use mathlib.Core.Path.{_≡_, refl, sym, ap, ap₂, subst, _∙_}
-use Prim.Native.Nat.{ℕ, suc, _+_, _-_, _*_, _/_, _%_, _^_, _≤_, _<_}
+use Prim.Native.Nat.{ℕ, zero, suc, _+_, _-_, _*_, _/_, _%_, _^_, _≤_, _<_}
 use native.Mathlib.Decide.{decLt}
 use native.Mathlib.Nat.{div-eq-of-lt, lt-of-lt-of-le}
 use native.Mathlib.Omega.{arith}
@@ -27,6 +27,10 @@ byte-is w k = refl
 -- what the code reads
 pub byte-read : (w k : ℕ) → (w / 2 ^ (8 * k) % 256 ≡ byteAt w k) × (w / 2 ^ (8 * k) % 256 < 256)
 byte-read w k = (byte-is w k, omega arith)
+
+pub byte-small : (w k : ℕ) → byteAt w k < 256
+unfolding byteAt
+byte-small w k = omega arith
 
 -- a byte says only what the bits up to its own say
 byte-field : (w k : ℕ) → byteAt w k ≡ w % 2 ^ (8 + 8 * k) / 2 ^ (8 * k)
@@ -91,6 +95,14 @@ pub bytes-turn : (k : ℕ) (f : ℕ → ℕ) (r n : ℕ) → k < 8 → n < 256 �
 bytes-turn k f r n h s p m = bytes-more k 1 f (λ j. f k) r n (omega arith)
     (λ j l. let e : k ≡ k + j = omega arith in ap f e) m
     (record { size = s; bytes = λ j l. (let z : j ≡ 0 = omega arith in ap (byteAt n) z ∙ byte-whole n s ∙ p) })
+
+-- any bytes make a word
+pub bytes-some : (n : ℕ) (f : ℕ → ℕ) → n ≤ 8 → ((k : ℕ) → k < n → f k < 256) → (r : ℕ) × Bytes n f r
+bytes-some zero f h s = (0, bytes-start f)
+bytes-some (suc n) f h s =
+    let (r, b) = bytes-some n f (omega arith) (λ k l. s k (omega arith)) in
+    let e : n + 1 ≡ suc n = omega arith in
+    (bitOr r (f n * 2 ^ (8 * n) % 2 ^ 64), subst (λ k. Bytes k f (bitOr r (f n * 2 ^ (8 * n) % 2 ^ 64))) e (bytes-turn n f r (f n) (omega arith) (s n (omega arith)) refl b))
 
 -- where the next m places have none
 pub bytes-none : (k m : ℕ) (f : ℕ → ℕ) (r : ℕ) → ((j : ℕ) → j < m → f (k + j) ≡ 0) → Bytes k f r → Bytes (k + m) f r

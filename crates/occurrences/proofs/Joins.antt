@@ -2,7 +2,7 @@
 use mathlib.Core.Bool.{Bool, true}
 use mathlib.Core.List.{List, [], _∷_, _++_, Memᴰ·append-left, Memᴰ·append-right, List·Memᴰ·append-cases}
 use mathlib.Core.Logic.{_⊎_, inl, inr, ⊎-elim}
-use mathlib.Core.Path.{_≡_, refl, ap, ap₂, _∙_}
+use mathlib.Core.Path.{_≡_, refl, sym, ap, ap₂, _∙_}
 use Prim.Native.Nat.{ℕ, max, _+_, _-_, _≤_, _<_}
 use native.Mathlib.Decide.{decLt}
 use native.Mathlib.Omega.{arith}
@@ -25,7 +25,8 @@ use Rattle.timestamps.proofs.Stamps.{Before, before-is, before-says, before-str
 use Rattle.occurrences.specs.declared.Occurrence.{Occurrence}
 use Rattle.occurrences.specs.Combination.{combinedOf}
 use Rattle.occurrences.specs.Packed.{Names, Notes, Sound, Stands, byteAt, fromWords, occurrenceOf, wordsOf}
-use Rattle.occurrences.specs.Steps.{Bytes, Highest, keptOf, laterAt, laterOf, noteAt}
+use Rattle.occurrences.specs.Steps.{Bytes, Highest, Settled, keptOf, laterAt, laterOf, noteAt}
+use Rattle.occurrences.proofs.Bytes.{byte-small, bytes-some}
 use Rattle.occurrences.proofs.Combination.{same-occurrence}
 use Rattle.occurrences.proofs.Seen.{Seen, seen-sound, seen-stands, stamp-told, stands-composite}
 use Rattle.occurrences.proofs.Views.{latest-in, stamp, stamps-one, stampsIn, view-is}
@@ -112,27 +113,33 @@ module _ (clocks : Clocks) where
 
 -- ---- the bytes
 module _ (ticks : List ℕ) (i j : ℕ) where
-  pub later-note : getD ticks (laterOf ticks i j) 0 ≡ max (getD ticks i 0) (getD ticks j 0)
+  pub later-second : getD ticks i 0 < getD ticks j 0 → laterOf ticks i j ≡ j
   unfolding laterOf
+  later-second l = rw (lt-ltb (getD ticks i 0) (getD ticks j 0) l)
+
+  pub later-first : getD ticks j 0 ≤ getD ticks i 0 → laterOf ticks i j ≡ i
+  unfolding laterOf
+  later-first l = rw (le-ltb (getD ticks i 0) (getD ticks j 0) l)
+
+  pub later-note : getD ticks (laterOf ticks i j) 0 ≡ max (getD ticks i 0) (getD ticks j 0)
   later-note = elim (decLt (getD ticks i 0) (getD ticks j 0)) [
-    | yes l ↦ rw (lt-ltb (getD ticks i 0) (getD ticks j 0) l) (omega arith)
-    | no l ↦ rw (le-ltb (getD ticks i 0) (getD ticks j 0) (omega arith)) (omega arith)
+    | yes l ↦ rw (later-second l) (omega arith)
+    | no l ↦ rw (later-first (omega arith)) (omega arith)
   ]
 
   -- it is one of the two
   pub later-one : (P : ℕ → Type 0) → P i → P j → P (laterOf ticks i j)
-  unfolding laterOf
   later-one P p q = elim (decLt (getD ticks i 0) (getD ticks j 0)) [
-    | yes l ↦ rw (lt-ltb (getD ticks i 0) (getD ticks j 0) l) q
-    | no l ↦ rw (le-ltb (getD ticks i 0) (getD ticks j 0) (omega arith)) p
+    | yes l ↦ rw (later-second l) q
+    | no l ↦ rw (later-first (omega arith)) p
   ]
 
 module _ (globals : List ℕ) (h n : ℕ) where
-  kept-small : getD globals n 0 < h - 1 → keptOf globals h n ≡ 0
+  pub kept-small : getD globals n 0 < h - 1 → keptOf globals h n ≡ 0
   unfolding keptOf
   kept-small l = rw (lt-ltb (getD globals n 0 + 1) h (omega arith))
 
-  kept-large : h - 1 ≤ getD globals n 0 → keptOf globals h n ≡ n
+  pub kept-large : h - 1 ≤ getD globals n 0 → keptOf globals h n ≡ n
   unfolding keptOf
   kept-large l = rw (le-ltb (getD globals n 0 + 1) h (omega arith))
 
@@ -143,7 +150,7 @@ module _ (globals : List ℕ) (h n : ℕ) where
     | no l ↦ rw (kept-large (omega arith)) p
   ]
 
--- ---- the whole
+-- ---- the whole, with a word that has the later of each logger
 module _ (ticks globals : List ℕ) (a b : List ℕ) (m h r : ℕ) (e : EventSet)
     (later : Bytes 8 (laterAt ticks (getD a 2 0) (getD b 2 0)) m)
     (top : Highest 8 (λ k. getD globals (laterAt ticks (getD a 2 0) (getD b 2 0) k) 0) h)
@@ -199,8 +206,8 @@ module _ (ticks globals : List ℕ) (a b : List ℕ) (m h r : ℕ) (e : EventSet
     unfolding combinedOf
     is-combined = same-occurrence latest-is events-is
 
-    pub combined-stands : Stands n both (combinedOf (n .clocks) x y)
-    combined-stands = record {
+    merged-stands : Stands n both (combinedOf (n .clocks) x y)
+    merged-stands = record {
       same = is-combined;
       sound = record {
         names = kept-sound;
@@ -208,3 +215,15 @@ module _ (ticks globals : List ℕ) (a b : List ℕ) (m h r : ℕ) (e : EventSet
             (maxima-composite (n .clocks) all (stands-composite n a x p .some .0) (Memᴰ·append-left (members (y .latest)) (stands-composite n a x p .some .1))));
       };
     }
+
+-- there is such a word
+module _ {ticks globals : List ℕ} (n : Notes ticks globals) (x y : Occurrence) (a b : List ℕ) (p : Stands n a x) (q : Stands n b y) (r : ℕ) (e : EventSet)
+    (done : Settled globals (laterAt ticks (getD a 2 0) (getD b 2 0)) r)
+    (united : e ≡ unionOf (record { low = getD a 0 0; high = getD a 1 0 }) (record { low = getD b 0 0; high = getD b 1 0 })) where
+  pub combined-stands : Stands n (e .low ∷ e .high ∷ r ∷ []) (combinedOf (n .clocks) x y)
+  combined-stands =
+      let (m, later) = bytes-some 8 (laterAt ticks (getD a 2 0) (getD b 2 0)) (omega arith)
+      (λ k l. later-one ticks _ _ (λ i. i < 256) (byte-small (getD a 2 0) k) (byte-small (getD b 2 0) k)) in
+      merged-stands ticks globals a b m (done .highest) r e later (done .top)
+      (record { size = done .kept .size; bytes = λ k l. done .kept .bytes k l ∙ sym (ap (keptOf globals (done .highest)) (later .bytes k l)) })
+      united n x y p q

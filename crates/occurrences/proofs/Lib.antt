@@ -9,6 +9,7 @@ pub mod Orders
 pub mod Packed
 pub mod Rows
 pub mod Seen
+pub mod Single
 pub mod Steps
 pub mod Views
 pub mod Words

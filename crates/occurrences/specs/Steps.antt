@@ -22,6 +22,13 @@ pub record Bytes (n : ℕ) (f : ℕ → ℕ) (r : ℕ) : Type 0 where
   pub size : r < 2 ^ (8 * n)
   pub bytes : (k : ℕ) → k < n → byteAt r k ≡ f k
 
+-- w has the byte n at one place, and 0 at the others
+pub record Only (w n : ℕ) : Type 0 where
+  pub place : ℕ
+  pub within : place < 8
+  pub here : byteAt w place ≡ n
+  pub elsewhere : (k : ℕ) → k < 8 → (k ≡ place → ⊥) → byteAt w k ≡ 0
+
 -- of two events the one with the later tick
 unfoldable pub laterOf : List ℕ → ℕ → ℕ → ℕ
 laterOf ticks i j = pick (ltb (getD ticks i 0) (getD ticks j 0)) j i
@@ -37,6 +44,12 @@ keptOf globals h i = pick (ltb (getD globals i 0 + 1) h) 0 i
 pub record Highest (n : ℕ) (g : ℕ → ℕ) (h : ℕ) : Type 0 where
   pub most : (k : ℕ) → k < n → g k ≤ h
   pub some : 0 < h → (k : ℕ) × (k < n) × (g k ≡ h)
+
+-- r has those of the events f that are not clearly earlier than the highest
+pub record Settled (globals : List ℕ) (f : ℕ → ℕ) (r : ℕ) : Type 0 where
+  pub highest : ℕ
+  pub top : Highest 8 (λ k. getD globals (f k) 0) highest
+  pub kept : Bytes 8 (λ k. keptOf globals highest (f k)) r
 
 -- the lowest tick that the notes of the first n places tell; the largest number where there is none
 pub record Lowest (n : ℕ) (g : ℕ → ℕ) (low : ℕ) : Type 0 where

@@ -12,8 +12,9 @@ ghost use lib.ListN.{getD, length};
 ghost use Rattle.occurrences.specs.declared.Occurrence.{Occurrence};
 ghost use Rattle.occurrences.specs.Combination.{combinedOf};
 ghost use Rattle.occurrences.specs.Occurrences.{isWeaklyBefore, occurrenceOrder, ofEvent};
-ghost use Rattle.occurrences.specs.Packed.{Notes, Stands, Within, byteAt, wordsOf};
-ghost use Rattle.occurrences.specs.Steps.{Bytes, Highest, Inside, Lowest, LowestOf, hasBefore, isReached, keptOf, laterAt, laterOf, noteAt, ownBefore};
+ghost use Rattle.occurrences.specs.Packed.{Names, Notes, Stands, Within, byteAt, wordsOf};
+ghost use Rattle.occurrences.specs.Steps.{Bytes, Highest, Inside, Lowest, LowestOf, Only, Settled};
+ghost use Rattle.occurrences.specs.Steps.{hasBefore, isReached, keptOf, laterAt, laterOf, noteAt, ownBefore};
 ghost use Rattle.timestamps.specs.Comparison.{allBefore, weaklyBefore};
 ghost use Rattle.timestamps.specs.Composite.{members};
 ghost use Rattle.timestamps.specs.Order.{blank};
@@ -67,6 +68,15 @@ pub fn word_at(o: &Packed, ticks: &[u64], k: usize) -> u64
     ensures { λ r. ⌜ r ≡ getD (wordsOf (now (ticks .entry)) (now (o .entry))) (2 + k) 0 ⌝ }
 {
     ticks[event_at(o[2], k)]
+}
+
+// The event that has the only timestamp, its number plus one; 0 where there is none, or several.
+fn only(w: u64) -> usize
+    ensures { λ r. ⌜ (r < 256) × (0 < r → Only w r) ⌝ }
+{
+    let k = (u64::trailing_zeros(w) / 8) as usize;
+    let event = (w >> (8 * (k % 8))) as usize;
+    if event < 256 { event } else { 0 }
 }
 
 // ---- the join
@@ -165,19 +175,44 @@ fn settled(c: u64, highest: GlobalTick, globals: &[u64]) -> u64
     low | settled_of_four(c >> 32, highest, globals) << 32
 }
 
-// The combination of two: of each logger the later timestamp, of these those that are not clearly earlier than the highest, and the union of the events.
+// The join of two packed composite timestamps: where each has only one, and these are clearly apart, the later; else of each logger the later, and of
+// these those that are not clearly earlier than the highest.
+fn joined(a: u64, b: u64, ticks: &[u64], globals: &[u64]) -> u64
+    requires { ⌜ Inside 8 (now ticks) a × Inside 8 (now ticks) b × Inside 8 (now globals) a × Inside 8 (now globals) b ⌝ }
+    ensures { λ r. ⌜ ((t : Notes (now (ticks .entry)) (now (globals .entry)))
+        → ((k : ℕ) → k < 8 → Names (t .stamps) k (byteAt a k)) → ((k : ℕ) → k < 8 → Names (t .stamps) k (byteAt b k))
+        → Settled (now (globals .entry)) (laterAt (now (ticks .entry)) a b) r) ⌝ }
+{
+    let i = only(a);
+    let j = only(b);
+    if 0 < i {
+        if 0 < j {
+            let s = GlobalTick(globals[i]);
+            let t = GlobalTick(globals[j]);
+            if s.clearly_earlier(t) {
+                return b;
+            }
+            if t.clearly_earlier(s) {
+                return a;
+            }
+        }
+    }
+    let m = merged(a, b, ticks, globals);
+    settled(m.events, m.highest, globals)
+}
+
+// The combination of two: the join of their timestamps, and the union of their events.
 pub fn combined(a: &Packed, b: &Packed, ticks: &[u64], globals: &[u64]) -> Packed
     requires { ⌜ Within (now ticks) (now globals) (now a) × Within (now ticks) (now globals) (now b) ⌝ }
     ensures { λ r. ⌜ ((t : Notes (now (ticks .entry)) (now (globals .entry))) (x y : Occurrence)
         → Stands t (now (a .entry)) x → Stands t (now (b .entry)) y
         → Stands t r (combinedOf (t .clocks) x y)) ⌝ }
 {
-    let m = merged(a[2], b[2], ticks, globals);
     let events = event_sets::union(events_of(a), events_of(b));
     let mut c = [0u64; 3];
     c[0] = events.low;
     c[1] = events.high;
-    c[2] = settled(m.events, m.highest, globals);
+    c[2] = joined(a[2], b[2], ticks, globals);
     c
 }
 
@@ -214,12 +249,17 @@ fn lowest_of_four(w: u64, globals: &[u64]) -> GlobalTick
     low
 }
 
-// The lowest of all global ticks, the largest number where there is none. The last four places are looked at only where they have any.
+// The lowest of all global ticks, the largest number where there is none. An only timestamp is looked at at once, the last four places only where they
+// have any.
 pub fn lowest(o: &Packed, globals: &[u64]) -> GlobalTick
     requires { ⌜ Inside 8 (now globals) (getD (now o) 2 0) ⌝ }
     ensures { λ r. ⌜ (getD (now (globals .entry)) 0 0 ≡ 0 → LowestOf (now (globals .entry)) (now (o .entry)) (r .0)) ⌝ }
 {
     let w = o[2];
+    let event = only(w);
+    if 0 < event {
+        return global_of(globals[event]);
+    }
     let low = lowest_of_four(w, globals);
     let high = w >> 32;
     if high == 0 {
