@@ -133,7 +133,7 @@ fn run_small(
     )
 }
 
-// The same, where 200 and 72 are enough.
+// The same, where 200 and 72 are enough; 120 and 40 are lent where those are.
 fn run_half(
     numbers: &LoggerNumbers,
     seats: &Seats,
@@ -152,6 +152,23 @@ fn run_half(
     ensures { λ r. ⌜ Runs (now (numbers .entry)) (now (takers .entry)) (now (seats .entry)) l m count (now (kinds .entry)) (now (loggers .entry))
         (now (ticks .entry)) (now (globals .entry)) (now (output .entry)) r (now (output .exit)) ⌝ }
 {
+    if fits(l, 120, m, 40) {
+        let mut lists = [[0u64; 3]; 120];
+        let mut made = [[0u64; 3]; 40];
+        return detector::run_in(
+            numbers,
+            seats,
+            takers,
+            count,
+            kinds,
+            loggers,
+            ticks,
+            globals,
+            &mut lists,
+            &mut made,
+            output,
+        );
+    }
     let mut lists = [[0u64; 3]; 200];
     let mut made = [[0u64; 3]; 72];
     detector::run_in(
@@ -220,7 +237,7 @@ fn run_large(
     )
 }
 
-// The same; 120 and 40 are lent where those are enough.
+// The same; 85 and 40 are lent where those are enough: so many are cleared in half the time of a few more (docs/PERFORMANCE.md, "Clearing").
 fn run_middle(
     numbers: &LoggerNumbers,
     seats: &Seats,
@@ -239,8 +256,8 @@ fn run_middle(
     ensures { λ r. ⌜ Runs (now (numbers .entry)) (now (takers .entry)) (now (seats .entry)) l m count (now (kinds .entry)) (now (loggers .entry))
         (now (ticks .entry)) (now (globals .entry)) (now (output .entry)) r (now (output .exit)) ⌝ }
 {
-    if fits(l, 120, m, 40) {
-        let mut lists = [[0u64; 3]; 120];
+    if fits(l, 85, m, 40) {
+        let mut lists = [[0u64; 3]; 85];
         let mut made = [[0u64; 3]; 40];
         return detector::run_in(
             numbers,

@@ -24,7 +24,7 @@ run-in-requires c κs =
     let yes = c .before .before .before in
     let s = yes .before .before .before .before .before in
     let enough = yes .before .fits2 .ensures .0 (yes .if1 .taken) in
-    ((s .pre .2 .0, s .pre .2 .1, ready-in (s .pre .2 .2) 120 40 (enough .0) (enough .1)), clear 120, s .pre .3)
+    ((s .pre .2 .0, s .pre .2 .1, ready-in (s .pre .2 .2) 85 40 (enough .0) (enough .1)), clear 85, s .pre .3)
 
 same-length : tie.Need-same-length
 same-length c = search needs
@@ -34,7 +34,7 @@ returns c =
     let ran = c .before .before .before .before in
     let yes = ran .before .before .before .before in
     let enough = yes .before .fits2 .ensures .0 (yes .if1 .taken) in
-    λ p places same seated. ran .run-in .ensures p places same (ready-in seated 120 40 (enough .0) (enough .1))
+    λ p places same seated. ran .run-in .ensures p places same (ready-in seated 85 40 (enough .0) (enough .1))
 
 run-large-requires : tie.Need-run-large-requires
 run-large-requires c κs = search needs
