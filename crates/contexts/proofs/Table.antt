@@ -1,7 +1,8 @@
 -- The table of codes says what document 01's table says.
 use mathlib.Core.Path.{_≡_, refl, sym, ap, _∙_}
 use mathlib.Core.List.{List, [], _∷_, map}
-use Prim.Native.Nat.{ℕ, _-_, _≤_, _<_}
+use Prim.Native.Nat.{ℕ, _+_, _-_, _%_, _^_, _≤_, _<_}
+use native.Mathlib.Decide.{decLt}
 use native.Mathlib.Omega.{arith}
 use lib.ListN.{getD, List·getD-eq-default}
 use Rattle.sequences.proofs.Parts.{getD-map}
@@ -34,14 +35,13 @@ pub row-at : (context k : ℕ) (d : Row) → (k < 4) × (getD table k recent ≡
 row-at context k d (h, e) = sym (getD-map contextOf rows k d recent h) ∙ ap (λ t. getD t k recent) rows-say ∙ e
 
 -- ---- the place of a context's row
-pub place-first : (context : ℕ) → context < 2 → (0 < 4) × (getD table 0 recent ≡ rowOf context)
+pub place-in : (context k : ℕ) → (k + 1) % 2 ^ 64 ≡ context → k < 4 → (k < 4) × (getD table k recent ≡ rowOf context)
 unfolding rowOf
-place-first context h = let e : context - 1 ≡ 0 = omega arith in (omega arith, rw e)
+place-in context k e h = let same : context - 1 ≡ k = omega (arith, e) in (h, rw same)
 
-pub place-in : (context : ℕ) → 2 ≤ context → context < 5 → (context - 1 < 4) × (getD table (context - 1) recent ≡ rowOf context)
+pub place-else : (context k : ℕ) → (k + 1) % 2 ^ 64 ≡ context → k < 2 ^ 64 → 4 ≤ k → (0 < 4) × (getD table 0 recent ≡ rowOf context)
 unfolding rowOf
-place-in context h k = (omega arith, refl)
-
-pub place-beyond : (context : ℕ) → 5 ≤ context → (0 < 4) × (getD table 0 recent ≡ rowOf context)
-unfolding rowOf
-place-beyond context h = let past : 4 ≤ context - 1 = omega arith in (omega arith, sym (List·getD-eq-default table recent past))
+place-else context k e small h = elim (decLt context 1) [
+  | yes none ↦ (let first : context - 1 ≡ 0 = omega arith in (omega arith, rw first))
+  | no some ↦ (let past : 4 ≤ context - 1 = omega (arith, e) in (omega arith, sym (List·getD-eq-default table recent past)))
+]

@@ -92,13 +92,8 @@ const ROWS: [Row; 4] = [
 fn place_of(context: u64) -> usize
     ensures { λ k. ⌜ (k < 4) × (getD table k recent ≡ rowOf context) ⌝ }
 {
-    if context < 2 {
-        0
-    } else if context < 5 {
-        (context - 1) as usize
-    } else {
-        0
-    }
+    let k = std::num::wrapping_sub_u64(context, 1);
+    if k < 4 { k as usize } else { 0 }
 }
 
 // The row of a context.

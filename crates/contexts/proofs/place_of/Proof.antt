@@ -1,20 +1,17 @@
--- By the three cases.
-use Rattle.contexts.proofs.Table.{place-first, place-in, place-beyond}
+-- By whether it is one of the four.
+use Rattle.contexts.proofs.Table.{place-else, place-in}
 use borrow.Author.Needs.{needs}
 use Rattle.contexts.proofs.place_of.Statement.{statement}
 use Rattle.contexts.proofs.place_of.Tie as tie
 
-sub-result : tie.Need-sub-result
-sub-result c = search needs
+wrapping-sub-u64-requires : tie.Need-wrapping-sub-u64-requires
+wrapping-sub-u64-requires c κs = search needs
 
 returns : tie.Need-returns
-returns c = place-first _ (c .if1 .taken)
+returns c = place-in _ _ (c .before .wrapping-sub-u64 .ensures) (c .if1 .taken)
 
 returns-2 : tie.Need-returns-2
-returns-2 c = place-in _ (c .before .if1 .left) (c .if2 .taken)
-
-returns-3 : tie.Need-returns-3
-returns-3 c = place-beyond _ (c .if2 .left)
+returns-2 c = place-else _ _ (c .before .wrapping-sub-u64 .ensures) (search needs) (c .if1 .left)
 
 pub place-of-spec : {M : Type 1} → statement M
-place-of-spec = tie.close (tie.spec sub-result returns returns-2 returns-3)
+place-of-spec = tie.close (tie.spec wrapping-sub-u64-requires returns returns-2)
