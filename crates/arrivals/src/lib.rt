@@ -147,7 +147,7 @@ pub fn emit_made(
 }
 
 // The lefts of the next finding, as marks, and those that are left after it.
-#[derive(Drop)]
+#[derive(Clone, Copy)]
 struct Group {
     lefts: u64,
     rest: u64,

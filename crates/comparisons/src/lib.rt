@@ -12,7 +12,7 @@ use timestamps::{GlobalTick, LocalTick, Order, Relation, Timestamp};
 
 // The word by its number (timestamps, `Order`), and whether the first is weakly before the second.
 #[repr(C)]
-#[derive(Drop)]
+#[derive(Clone, Copy)]
 pub struct Comparison {
     pub number: u64,
     pub place: u64,
@@ -38,7 +38,7 @@ fn refused_comparison(v: Verdict, place: u64) -> Comparison
 pub type ListNotes = [u64; 16];
 
 // How one list has been judged so far, and the lowest and the highest of its global ticks: while it has none, the largest number and 0.
-#[derive(Drop)]
+#[derive(Clone, Copy)]
 pub struct Span {
     pub verdict: Verdict,
     pub place: u64,
@@ -47,21 +47,21 @@ pub struct Span {
 }
 
 // What has been gathered of one list.
-#[derive(Drop)]
+#[derive(Clone, Copy)]
 pub struct Gathering {
     pub span: Span,
     pub notes: ListNotes,
 }
 
 // Whether a list has a timestamp before another one, and one after it.
-#[derive(Drop)]
+#[derive(Clone, Copy)]
 struct Around {
     earlier: bool,
     later: bool,
 }
 
 // What the second list's timestamps tell: whether the first is before it, concurrent with it, weakly before it.
-#[derive(Drop)]
+#[derive(Clone, Copy)]
 struct Replies {
     before: bool,
     concurrent: bool,
@@ -69,7 +69,7 @@ struct Replies {
 }
 
 // Before a list is walked: turned back at once, or nothing gathered yet.
-#[derive(Drop)]
+#[derive(Clone, Copy)]
 pub struct CompareStart {
     pub stop: bool,
     pub answer: Comparison,

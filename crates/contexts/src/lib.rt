@@ -21,7 +21,7 @@ use timestamps::{GlobalTick, Order};
 // ---- the table
 
 // A row of document 01's table, by codes: small numbers, since a row is looked up at every meeting.
-#[derive(Drop)]
+#[derive(Clone, Copy)]
 pub struct Row {
     pub taken: u8,
     pub findings: u8,
@@ -244,7 +244,7 @@ pub fn unblocked(
 // ---- the choice
 
 // Which places of the list are taken, and which are removed.
-#[derive(Drop)]
+#[derive(Clone, Copy)]
 pub struct Choice {
     pub taken: u64,
     pub removed: u64,

@@ -19,7 +19,7 @@ use timestamps::LocalTick;
 pub type LoggerNumbers = [u64; 8];
 
 // A stamp as it is written: the number of its logger, and its local tick.
-#[derive(Drop)]
+#[derive(Clone, Copy)]
 pub struct Stamp {
     pub logger: u64,
     pub tick: LocalTick,

@@ -10,7 +10,7 @@ use detections::LoggerNumbers;
 use occurrences::Packed;
 
 // What ends the work on the way; document 01's numbers 31 to 33 (specs/Emissions.antt, number_of).
-#[derive(Drop)]
+#[derive(Clone, Copy)]
 pub enum Limit {
     None,
     ListFull,

@@ -3,7 +3,7 @@
 ghost use Rattle.std.specs.Prelude.{◌≡◌};
 ghost use Rattle.event_sets.specs.Sets.{no_events, has, marked_with, union_of, size_of, next_bit, next_from};
 
-#[derive(Drop)]
+#[derive(Clone, Copy)]
 pub struct EventSet {
     pub low: u64,
     pub high: u64,

@@ -5,7 +5,7 @@ ghost use Rattle.forms.specs.Sections.{within};
 ghost use Rattle.forms.specs.Views.{number_read};
 
 // What reading a number finds.
-#[derive(Drop)]
+#[derive(Clone, Copy)]
 pub enum NumberRead {
     // It is not complete.
     CutShort,

@@ -15,14 +15,14 @@ use readings::FindingRead;
 use working::Answer;
 
 // How many bytes of a file were read, or that reading failed.
-#[derive(Drop)]
+#[derive(Clone, Copy)]
 struct FileRead {
     failed: bool,
     count: usize,
 }
 
 // A page with some lines: where they end, the place of the next finding, and how many are left.
-#[derive(Drop)]
+#[derive(Clone, Copy)]
 struct Filled {
     len: usize,
     next: usize,

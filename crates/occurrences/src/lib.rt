@@ -15,7 +15,7 @@ use event_sets::EventSet;
 use timestamps::{CompositeTimestamp, GlobalTick, LocalTick, Order};
 
 // Document 01's occurrence: its composite stamp and its events.
-#[derive(Drop)]
+#[derive(Clone, Copy)]
 pub struct Occurrence {
     pub latest: CompositeTimestamp,
     pub events: EventSet,
@@ -88,7 +88,7 @@ fn later_of(i: usize, j: usize, ticks: &[u64]) -> usize
 }
 
 // Which events have the later timestamps, and the highest global tick of these plus one.
-#[derive(Drop)]
+#[derive(Clone, Copy)]
 struct Merge {
     events: u64,
     highest: GlobalTick,

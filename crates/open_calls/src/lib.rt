@@ -12,7 +12,7 @@ use timestamps::{GlobalTick, LocalTick, Timestamp};
 // ---- answers
 
 // Why a call is turned back; document 01's numbers 34 to 37 (specs/Answers.antt, number_of).
-#[derive(Drop)]
+#[derive(Clone, Copy)]
 pub enum Verdict {
     Accepted,
     BadRatio,
@@ -23,7 +23,7 @@ pub enum Verdict {
 
 // One timestamp for each logger place, blank where there is none.
 #[repr(C)]
-#[derive(Drop)]
+#[derive(Clone, Copy)]
 pub struct JoinAnswer {
     pub number: u64,
     pub place: u64,
@@ -172,21 +172,21 @@ fn add(join: &mut JoinNotes, s: Timestamp, ratio: u64)
 // ---- the join
 
 // The verdict on a list so far: turned back, and at which place, or not.
-#[derive(Drop)]
+#[derive(Clone, Copy)]
 pub struct VerdictAt {
     pub verdict: Verdict,
     pub place: u64,
 }
 
 // A list judged, and joined while no entry turned it back.
-#[derive(Drop)]
+#[derive(Clone, Copy)]
 pub struct Joining {
     pub judged: VerdictAt,
     pub join: JoinNotes,
 }
 
 // Before the list is walked: turned back at once, or nothing judged yet.
-#[derive(Drop)]
+#[derive(Clone, Copy)]
 pub struct JoinStart {
     pub stop: bool,
     pub answer: JoinAnswer,

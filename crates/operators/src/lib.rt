@@ -46,7 +46,7 @@ pub fn actions_of(operator: u16) -> Actions
 // ---- arrivals
 
 // The turn of an input at a node: the node's place and context; what its arrivals do; which input it is; and where, in the node's lists, the middle one begins.
-#[derive(Drop)]
+#[derive(Clone, Copy)]
 pub struct Turn {
     pub place: u64,
     pub context: u64,
@@ -56,7 +56,7 @@ pub struct Turn {
 }
 
 // A part of the node's lists.
-#[derive(Drop)]
+#[derive(Clone, Copy)]
 pub struct Part {
     pub from: usize,
     pub to: usize,

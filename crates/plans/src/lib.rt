@@ -13,7 +13,7 @@ ghost use Rattle.plans.specs.Views.{Filled, RowOf, SlotOf, Slotted, SlotsBelow, 
 use timestamps::Timestamp;
 
 // A node entry, with the numbers of the file.
-#[derive(Drop)]
+#[derive(Clone, Copy)]
 pub struct Node {
     pub operator: u64,
     pub context: u64,
@@ -67,7 +67,7 @@ const MAX_KINDS: u64 = 32;
 const MAX_NODES: u64 = 16;
 
 // Why a plan is turned back.
-#[derive(Drop)]
+#[derive(Clone, Copy)]
 pub enum PlanFault {
     None,
     CutShort,
@@ -113,7 +113,7 @@ pub type Nodes = [NodeRow; 16];
 
 // A plan: its ratio, and how many loggers, kinds and nodes there are in front of the arrays that were lent; or its fault and
 // the place of the count or entry, with nothing counted.
-#[derive(Drop)]
+#[derive(Clone, Copy)]
 pub struct PlanRead {
     pub fault: PlanFault,
     pub place: usize,
@@ -124,21 +124,21 @@ pub struct PlanRead {
 }
 
 // What reading a piece or a section gives: its fault, what was read or how many, and the place after it or of the fault.
-#[derive(Drop)]
+#[derive(Clone, Copy)]
 struct NumberRead {
     fault: PlanFault,
     value: u64,
     at: usize,
 }
 
-#[derive(Drop)]
+#[derive(Clone, Copy)]
 struct NodeRead {
     fault: PlanFault,
     node: Node,
     at: usize,
 }
 
-#[derive(Drop)]
+#[derive(Clone, Copy)]
 struct CountRead {
     fault: PlanFault,
     count: usize,

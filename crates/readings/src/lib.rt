@@ -15,7 +15,7 @@ use timestamps::LocalTick;
 
 // What reading a finding gives. Where no whole finding within the limits stands, there is nothing in it, and the place is that of
 // the number, count or entry that is not in order.
-#[derive(Drop)]
+#[derive(Clone, Copy)]
 pub struct FindingRead {
     pub whole: bool,
     // The place after it.
@@ -28,14 +28,14 @@ pub struct FindingRead {
 }
 
 // What reading a number or a section gives: whether it is in order, and the place after it or where it is not.
-#[derive(Drop)]
+#[derive(Clone, Copy)]
 struct NumberRead {
     whole: bool,
     value: u64,
     next: usize,
 }
 
-#[derive(Drop)]
+#[derive(Clone, Copy)]
 struct StampsRead {
     whole: bool,
     count: usize,
@@ -43,7 +43,7 @@ struct StampsRead {
     next: usize,
 }
 
-#[derive(Drop)]
+#[derive(Clone, Copy)]
 struct EventsRead {
     whole: bool,
     events: EventSet,

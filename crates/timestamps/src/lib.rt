@@ -7,16 +7,16 @@ ghost use Rattle.timestamps.specs.Order.{blank, clearly_earlier, quotient, valid
 
 // A tick of a logger's own clock (document 01: local tick).
 #[repr(C)]
-#[derive(Drop)]
+#[derive(Clone, Copy)]
 pub struct LocalTick(pub u64);
 
 // A tick of the clock that all loggers share (document 01: global tick).
-#[derive(Drop)]
+#[derive(Clone, Copy)]
 pub struct GlobalTick(pub u64);
 
 // Document 01's stamp: the place of a logger and its local tick.
 #[repr(C)]
-#[derive(Drop)]
+#[derive(Clone, Copy)]
 pub struct Timestamp {
     pub logger: u8,
     pub tick: LocalTick,
@@ -116,7 +116,7 @@ pub fn valid_ratio(ratio: u64) -> bool
 // ---- composite timestamps
 
 // Document 01's composite stamp: at most one timestamp for each logger place. Where there is none the tick is 0.
-#[derive(Drop)]
+#[derive(Clone, Copy)]
 pub struct CompositeTimestamp {
     pub present: [bool; 8],
     pub ticks: [LocalTick; 8],
@@ -125,7 +125,7 @@ pub struct CompositeTimestamp {
 // ---- how two composites compare
 
 // The word for how one composite stands to another (specs/Comparison.antt: `says` what each means, `order_number` its number).
-#[derive(Drop)]
+#[derive(Clone, Copy)]
 pub enum Order {
     Incomparable,
     Before,
@@ -155,7 +155,7 @@ impl Order {
 }
 
 // The comparison: one word, and whether the first is weakly before the second.
-#[derive(Drop)]
+#[derive(Clone, Copy)]
 pub struct Relation {
     pub order: Order,
     pub weakly_before: bool,

@@ -13,14 +13,14 @@ use occurrences::Packed;
 
 // Document 01's waiting list. Four bits of `order` name a place: the lowest four that of the first that waits, and so on for `len` of them. After them come
 // the places that are free: an append takes the first of these, and a removal puts there what it frees.
-#[derive(Drop)]
+#[derive(Clone, Copy)]
 pub struct WaitingList {
     pub order: u64,
     pub len: usize,
 }
 
 // What an append leaves, and where in the lent slice the new one goes; past every place where the list is full.
-#[derive(Drop)]
+#[derive(Clone, Copy)]
 pub struct AfterAppend {
     pub place: usize,
     pub list: WaitingList,

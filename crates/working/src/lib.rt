@@ -2,7 +2,7 @@
 
 // 0, or the number of the fault or limit; its place; the findings, and the bytes they take.
 #[repr(C)]
-#[derive(Drop)]
+#[derive(Clone, Copy)]
 pub struct Answer {
     pub number: u64,
     pub place: u64,

@@ -1,0 +1,12 @@
+-- Each stamp of the second at a place before k has one before it.
+use Rattle.std.proofs.Common.{◌≡◌, ℕ, ◌-◌, ◌<◌, ◌≤◌, true, sym, ◌∙◌, arith, rules}
+use Rattle.occurrences.proofs.Befores.{Both, before-each, before-not, has_at}
+use Rattle.occurrences.proofs.Steps.{next_place}
+use borrow.Author.Tests.{not-false, not-true}
+use Rattle.occurrences.proofs.before.Given as goal
+
+abbrev pub invariant-loop-k : goal.invariant-loop-k
+invariant-loop-k l = (l.k ≤ 8) × ((j : ℕ) → j < l.k → Both l.ticks l.globals l.a l.b j → has_at l.ticks l.globals l.a l.b j l.low.0 ≡ true)
+
+abbrev pub decreases-loop-k : goal.decreases-loop-k
+decreases-loop-k l = 8 - l.k

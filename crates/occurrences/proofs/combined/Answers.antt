@@ -1,0 +1,16 @@
+-- The union of the events, and the join of the stamps.
+use Rattle.event_sets.specs.Sets.{union_of}
+use Rattle.occurrences.proofs.Joins.{combined_stands}
+use Rattle.std.proofs.Common.{◌∙◌, ap₂, rules}
+use Rattle.occurrences.proofs.combined.Goals as goal
+
+pub joined-requires : goal.joined-requires
+joined-requires c =
+    let p = c.requires in
+    ((λ k l. (p.0 k l).0), (λ k l. (p.1 k l).0), (λ k l. (p.0 k l).1), (λ k l. (p.1 k l).1))
+
+pub returns : goal.returns
+returns c =
+    let u = c in
+    λ n x y p q. combined_stands n x y _ _ p q _ _ (c.joined.ensures n p.sound.names q.sound.names)
+    (u.union-events.ensures ∙ ap₂ union_of u.events_of.ensures u.events_of-2.ensures)

@@ -1,0 +1,12 @@
+-- By the two cases.
+use Rattle.occurrences.specs.Steps.{later_of}
+use Rattle.std.proofs.Common.{sym, ◌∙◌, rules}
+use Rattle.occurrences.proofs.later_of.Goals as goal
+
+pub returns-then-earlier : goal.returns-then-earlier
+unfolding later_of
+returns-then-earlier c = rw (sym c.earlier.ensures ∙ c.if-earlier.true)
+
+pub returns-else-earlier : goal.returns-else-earlier
+unfolding later_of
+returns-else-earlier c = rw (sym c.earlier.ensures ∙ c.if-earlier.false)

@@ -1,0 +1,12 @@
+-- The number so far is the lowest at the places before k.
+use Rattle.std.proofs.Common.{◌≡◌, ◌-◌, ◌≤◌, get_or, ap, ◌∙◌, arith, rules}
+use Rattle.occurrences.proofs.Steps.{lowest_start, lowest_turn}
+use Rattle.occurrences.specs.Steps.{Lowest, note_at}
+use lib.Pow.{low}
+use Rattle.occurrences.proofs.lowest_of_four.Given as goal
+
+abbrev pub invariant-loop-k : goal.invariant-loop-k
+invariant-loop-k l = (l.k ≤ 4) × Lowest l.k (note_at l.globals l.w) l.low.0
+
+abbrev pub decreases-loop-k : goal.decreases-loop-k
+decreases-loop-k l = 4 - l.k

@@ -1,0 +1,37 @@
+-- Of the eight places; where the upper four have none, of the lower.
+use Rattle.occurrences.proofs.Bytes.{bytes-more, bytes-none, inside-first, inside-last, later_further, later-none}
+use Rattle.occurrences.proofs.Steps.{highest_level, highest-more}
+use Rattle.std.proofs.Common.{get_or, sym, ap, ◌∙◌, arith, rules}
+use Rattle.occurrences.proofs.merged.Goals as goal
+
+pub merged_of_four-low-requires : goal.merged_of_four-low-requires
+merged_of_four-low-requires c =
+    let p = c.requires in
+    (inside-first _ _ p.0, inside-first _ _ p.1, inside-first _ _ p.2, inside-first _ _ p.3)
+
+pub returns-then-a-b-eq0 : goal.returns-then-a-b-eq0
+returns-then-a-b-eq0 c =
+    let start = c in
+    let first = c.merged_of_four-low.ensures in
+    let none = later-none start.args.ticks.now start.args.a start.args.b 4 in (
+      bytes-none 4 4 _ _ (λ j l. none j c.if-a-b-eq0.true) first.0,
+      λ z. highest-more 4 4 _ (λ j. 0) _ 0 _ (λ j l. sym (ap (λ n. get_or start.args.globals.now n 0) (none j c.if-a-b-eq0.true) ∙ z)) (omega arith) first.1
+          (highest_level 4 0 (omega arith)),
+    )
+
+pub merged_of_four-high-requires : goal.merged_of_four-high-requires
+merged_of_four-high-requires c =
+    let s = c in
+    let p = s.requires in
+    (inside-last _ _ p.0, inside-last _ _ p.1, inside-last _ _ p.2, inside-last _ _ p.3)
+
+pub returns : goal.returns
+returns c =
+    let next = c in
+    let first = next in
+    let start = first in
+    let same = later_further start.args.ticks.now start.args.a start.args.b 4 in (
+      bytes-more 4 4 _ _ _ _ (omega arith) (λ j l. same j) first.merged_of_four-low.ensures.0 next.merged_of_four-high.ensures.0,
+      λ z. highest-more 4 4 _ _ _ _ _ (λ j l. ap (λ n. get_or start.args.globals.now n 0) (same j)) c.latest.ensures
+          first.merged_of_four-low.ensures.1 next.merged_of_four-high.ensures.1,
+    )

@@ -1,0 +1,13 @@
+-- The bytes before k name the later ones, and h is the highest of these.
+use Rattle.std.proofs.Common.{◌≡◌, ◌-◌, ◌<◌, ◌≤◌, max, length, get_or, ap, ◌∙◌, arith, rules}
+use Rattle.occurrences.proofs.Bytes.{bytes-start, bytes_turn}
+use Rattle.occurrences.proofs.Joins.{later_one}
+use Rattle.occurrences.proofs.Steps.{highest-start, highest_turn}
+use Rattle.occurrences.specs.Steps.{Bytes, Highest, later_at}
+use Rattle.occurrences.proofs.merged_of_four.Given as goal
+
+abbrev pub invariant-loop-k : goal.invariant-loop-k
+invariant-loop-k l = (l.k ≤ 4) × Bytes l.k (later_at l.ticks l.a l.b) l.r × Highest l.k (λ j. get_or l.globals (later_at l.ticks l.a l.b j) 0) l.h.0
+
+abbrev pub decreases-loop-k : goal.decreases-loop-k
+decreases-loop-k l = 4 - l.k

@@ -1,0 +1,13 @@
+-- The byte above the zeros at the end, where nothing stands above it.
+use Rattle.std.proofs.Common.{arith, rules}
+use Rattle.occurrences.proofs.Single.{few_zeros, only_byte}
+use Rattle.occurrences.proofs.only.Goals as goal
+
+pub overflow_cast-k : goal.overflow_cast-k
+overflow_cast-k c = omega (arith, few_zeros c.args.w)
+
+pub returns-then-event-lt256 : goal.returns-then-event-lt256
+returns-then-event-lt256 c = (c.if-event-lt256.true, λ p. only_byte c.args.w c.if-event-lt256.true)
+
+pub returns-else-event-lt256 : goal.returns-else-event-lt256
+returns-else-event-lt256 c = (omega arith, λ p. absurd (omega (arith, p)))

@@ -1,0 +1,11 @@
+-- No stamp of the first at a place before k has one of the second before it.
+use Rattle.std.proofs.Common.{◌≡◌, ℕ, ◌-◌, ◌<◌, ◌≤◌, false, sym, ◌∙◌, arith, rules}
+use Rattle.occurrences.proofs.Befores.{Both, reached_at, weakly-each, weakly-not}
+use Rattle.occurrences.proofs.Steps.{next_place}
+use Rattle.occurrences.proofs.weakly_by_place.Given as goal
+
+abbrev pub invariant-loop-k : goal.invariant-loop-k
+invariant-loop-k l = (l.k ≤ 8) × ((j : ℕ) → j < l.k → Both l.ticks l.globals l.b l.a j → reached_at l.ticks l.globals l.b l.a j l.first.0 ≡ false)
+
+abbrev pub decreases-loop-k : goal.decreases-loop-k
+decreases-loop-k l = 8 - l.k

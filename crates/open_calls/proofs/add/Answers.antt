@@ -1,0 +1,27 @@
+-- By the three cases.
+use mathlib.Core.Path.{sym, ◌∙◌}
+use native.Mathlib.Omega.{arith}
+use borrow.Author.Tests.{not-true, not-false}
+use Rattle.timestamps.specs.Order.{clocks_of}
+use Rattle.timestamps.proofs.Groupings.{valid-place}
+use Rattle.open_calls.proofs.Adding.{clear_told, late_told, put_told}
+use borrow.Author.Rules.{rules}
+use Rattle.open_calls.proofs.add.Goals as goal
+
+pub bounds-join-k : goal.bounds-join-k
+bounds-join-k c = omega (arith, valid-place _ c.requires)
+
+pub bounds-join-k-then-not-is_clear : goal.bounds-join-k-then-not-is_clear
+bounds-join-k-then-not-is_clear c = omega (arith, valid-place _ c.requires)
+
+pub bounds-join-k-then-not-is_clear-2 : goal.bounds-join-k-then-not-is_clear-2
+bounds-join-k-then-not-is_clear-2 c = omega (arith, valid-place _ c.requires)
+
+pub returns-then-not-is_clear : goal.returns-then-not-is_clear
+returns-then-not-is_clear c = λ l v n. put_told (clocks_of c.args.ratio) l v _ c.requires _ n _ _ c.note_of-note.ensures c.global_note-global.ensures (sym c.is_earlier.ensures ∙ c.if-is_earlier.true) (sym c.is_clear.ensures ∙ not-true _ c.if-not-is_clear.true) _ c.make_room.ensures
+
+pub returns-else-not-is_clear : goal.returns-else-not-is_clear
+returns-else-not-is_clear c = λ l v n. clear_told (clocks_of c.args.ratio) l v _ c.requires _ n _ c.global_note-global.ensures (sym c.is_clear.ensures ∙ not-false _ c.if-not-is_clear.false)
+
+pub returns-else-is_earlier : goal.returns-else-is_earlier
+returns-else-is_earlier c = λ l v n. late_told (clocks_of c.args.ratio) l v _ c.requires _ n _ c.note_of-note.ensures (sym c.is_earlier.ensures ∙ c.if-is_earlier.false)
