@@ -16,7 +16,18 @@ TOKEN = re.compile(r"[^\s(){}\[\];,.:λ`\"|]+")
 
 
 def norm(word):
-    return word.lower().replace("-", "_").replace("·", "_")
+    word = re.sub(r"_lem$", "", word.lower().replace("-", "_").replace("·", "_"))
+    return re.sub(r"(?<=[a-z0-9])_(?=\d+$)", "", word)
+
+
+def closing(text, i):
+    """The place behind the bracket that closes the one at i."""
+    deep = 0
+    for k in range(i, len(text)):
+        deep += (text[k] in "([{") - (text[k] in ")]}")
+        if deep == 0:
+            return k + 1
+    return len(text)
 
 
 def blocks(text):
@@ -48,22 +59,212 @@ def blocks(text):
 class Function:
     def __init__(self, made):
         self.needs = {norm(o): n for o, n in made["needs"]}
-        for o, n in made["needs"]:
-            self.needs.setdefault(norm(n), n)
         self.loops = {norm(o[0]): (o[1], vars, changed) for (o, vars), changed in zip(made["loops"], made["changed"])}
-        self.places, self.steps = {}, {}
-        for old, parent, (step, new), callee, _ in made["places"]:
+        self.places, self.steps, self.parent, self.typed = {}, {}, {}, set()
+        for (old, parent, (step, new), callee, _), typed in zip(made["places"], made["typed"]):
             self.steps.setdefault(norm(step), new)
-        for (old, *_), new in zip(made["places"], made["places_by_name"]):
-            self.places[norm(old)] = new
+            self.places[norm(old)] = old
+            self.parent[old] = parent
+            if typed:
+                self.typed.add(old)
+        self.params = {}
+        for old, _, (step, new), callee, _ in made["places"]:
+            if callee in made["params"]:
+                self.params[norm(step)] = made["params"][callee]
+        self.asked = {new: at[0] for (_, new), at in zip(made["needs"], made["asked_at"])}
+        self.helpers, self.alias = {}, {}
+
+    def above(self, place, goal):
+        """How many steps above a place another one is, or None."""
+        n = 0
+        while place is not None and place != goal:
+            place, n = self.parent.get(place), n + 1
+        return n if place else None
+
+    def place_in(self, text):
+        """The place that a type names, if it names one."""
+        text = text.strip()
+        if text.startswith("(") and closing(text, 0) == len(text):
+            text = text[1:-1].strip()
+        m = re.fullmatch(r"tie\.((?:After|Start|Else|In|At|Then)[^\s().,:]*)(?: (?:invariant|decreases)-\S+)*", text)
+        if m:
+            return self.places.get(norm(m[1]))
+        return self.alias.get(text)
+
+    def learn(self, block):
+        """Notes a helper: what place it takes first, and what place it gives."""
+        text = "\n".join(x for x in block if not x.lstrip().startswith("--"))
+        m = re.match(r"(?:abbrev |pub |unfoldable )*([^\s:(){}]+)\s+:\s+", text)
+        if not m:
+            return
+        a = re.match(r"Type 0\s*\n\S+ = (.*)$", text[m.end() :], re.S)
+        if a:
+            place = self.place_in(a[1])
+            if place:
+                self.alias[m[1]] = place
+            return
+        sig = re.split(r"(?m)^(?:unfolding .*\n)?" + re.escape(m[1]) + r"(?= )", text[m.end() :])[0]
+        b = re.match(r"\(([^\s():]+) : ((?:[^()]|\([^()]*\))+)\)\s*→(.*)", sig, re.S)
+        c = None if b else re.match(r"((?:[^()→]|\([^()]*\))+?)\s*→(.*)", sig, re.S)
+        first = b[2] if b else c[1] if c else ""
+        place = self.place_in(first)
+        if place:
+            rest = (b[3] if b else c[2]).strip()
+            self.helpers[m[1]] = (place, self.place_in(rest), b[1] if b else None)
+
+    ATOM = re.compile(r"[^\s(){}\[\],;]+")
+
+    def text(self, body, env, goal=None, extra=0):
+        """A term with places counted anew, and the place that it is, if it is one."""
+        env = dict(env)
+        out, i, n, only, aim = [], 0, len(body), None, None
+        parts = 0
+        while i < n:
+            ch = body[i]
+            if ch.isspace() or ch in ",;)]}":
+                out.append(ch)
+                i += 1
+                continue
+            if body.startswith("--", i) and (i == 0 or body[i - 1].isspace()):
+                j = body.find("\n", i)
+                j = n if j < 0 else j
+                out.append(body[i:j])
+                i = j
+                continue
+            m = re.match(r"let ([^\s()]+) = ", body[i:])
+            if m and (i == 0 or not re.match(r"[\w-]", body[i - 1])):
+                j = k = i + m.end()
+                deep = 0
+                while k < n:
+                    if body[k] in "([{":
+                        deep += 1
+                    elif body[k] in ")]}":
+                        deep -= 1
+                    if deep == 0 and re.match(r"let\b", body[k:]) and body[k - 1].isspace():
+                        deep += 0
+                    if deep == 0 and re.match(r"\sin\b", body[k:]):
+                        break
+                    k += 1
+                value, place = self.text(body[j:k], env)
+                env.pop(m[1], None)
+                if place:
+                    env[m[1]] = place
+                out.append(f"let {m[1]} = {value}")
+                i = k
+                parts += 2
+                continue
+            if ch in "([{":
+                j = closing(body, i)
+                inner, place = self.text(body[i + 1 : j - 1], env)
+                k = j
+                f = re.match(r"(?:\.[^\s(){}\[\],;.]+)+", body[j:]) if ch == "(" else None
+                chain = f[0] if f else ""
+                k += len(chain)
+                shown = ch + inner + body[j - 1]
+                if ch != "(":
+                    place = None
+            else:
+                m = self.ATOM.match(body, i)
+                word = m[0]
+                k = m.end()
+                base, dot, rest = word.partition(".")
+                if base.startswith("λ") or not base:
+                    out.append(word)
+                    i = k
+                    parts += 1
+                    continue
+                chain = dot + rest if base in env else ""
+                place = env.get(base)
+                shown = base if base in env else self.chains(word) if "." in word and not base.startswith(("goal", "Rattle", "tie")) else word
+            if place and re.fullmatch(r"(?:\.before)*", chain):
+                steps, it = "", place
+                if aim:
+                    up = self.up(place, aim)
+                    if up is None:
+                        steps = chain
+                    else:
+                        steps = ".before" * up
+                else:
+                    it = place
+                out.append(shown + steps)
+                only = it if parts == 0 or aim and aim_result else None
+                if aim:
+                    only = aim_result if parts == 1 else None
+            else:
+                out.append(shown + (self.chains(chain) if chain else ""))
+                only = None
+            aim, aim_result = None, None
+            head = shown if not chain else ""
+            if head in self.helpers and place is None:
+                aim, aim_result, _ = self.helpers[head]
+            parts += 1
+            i = k
+        if parts > 2:
+            only = None
+        return "".join(out), only
+
+    def up(self, place, goal):
+        if isinstance(place, tuple):
+            n = self.above(place[0], goal)
+            return None if n is None else n + 1
+        return self.above(place, goal)
+
+    def helper(self, block):
+        """A helper with its places counted anew."""
+        text = "\n".join(block)
+        m = re.search(r"(?m)^(?:abbrev |pub |unfoldable )*([^\s:(){}-][^\s:(){}]*)\s+:\s+", text)
+        name = m[1]
+        if name in self.alias or name not in self.helpers:
+            return self.types(self.text(text, {})[0] if name not in self.alias else text)
+        place, result, param = self.helpers[name]
+        eq = re.search(r"(?m)^" + re.escape(name) + r" ([^\s():]+)(?= )", text)
+        if not eq:
+            return "-- LEFT\n" + self.types(text)
+        sig, body = text[: eq.start()], text[eq.start() :]
+        head = re.match(re.escape(name) + r" [^=]*?= ?\s*", body, re.S)
+        value = body[head.end() :]
+        if result:
+            new, it = self.text(value, {eq[1]: place})
+            up = self.up(it, result) if it else None
+            if up is None:
+                value = "LEFT " + new
+            else:
+                value = (f"({new})" if " " in new and closing(new, 0) < len(new) else new) + ".before" * up
+        else:
+            value = self.text(value, {eq[1]: place})[0]
+        if param:
+            sig = self.text(sig, {param: place})[0]
+        return self.types(sig + body[: head.end()] + value)
+
+    def types(self, text):
+        """Places as types."""
+
+        def one(m):
+            place = self.places.get(norm(m[1]))
+            loops = [new for new, _, _ in self.loops.values()]
+            given = "".join(f" goal.the-invariant-{x} goal.the-decreases-{x}" for x in loops) if m[2] else ""
+            new = f"lts.{place} tie.the-claims reads.Pre reads.Post{given}"
+            return new if re.search(r"= $", text[: m.start()]) else f"({new})" if text[m.start() - 1 : m.start()] != "(" else new
+
+        return re.sub(r"tie\.((?:After|Start|Else|In|At|Then)[^\s().,:]*)((?: (?:invariant|decreases)-[^\s)]+)*)", one, text)
 
     def chains(self, text):
         """Field chains without `.before`, steps by their new names."""
+        text = re.sub(r"\.pre(?![\w-])", ".requires", text)
+        text = re.sub(r"(\.loop\d*)\.inv(?![\w-])", r"\1.invariant", text)
+        text = re.sub(r"-test\.taken(?![\w-])", "-test.true", text)
 
         def one(m):
             return "." + self.steps.get(norm(m[1]), m[1])
 
         text = re.sub(r"\.before(?![\w-])", "", text)
+
+        def last(m):
+            names = self.params.get(norm(m[1]))
+            k = len(m[2]) // 2
+            return f".{m[1]}.new.{names[k]}" if names and k < len(names) else m[0]
+
+        text = re.sub(r"\.((?!\d)[^\s(){}\[\],;.:λ]+)\.new((?:\.1)*)\.0(?!\w)", last, text)
         return re.sub(r"\.((?!\d)[^\s(){}\[\];,.:λ]+)", one, text)
 
     def places_of(self, text):
@@ -112,11 +313,18 @@ def invariant(block, kind, fn):
 def turn(folder, crate, path, made):
     with open(os.path.join(folder, "Proof.antt")) as f:
         text = f.read()
+    if "tie." not in text:
+        os.remove(os.path.join(folder, "Proof.antt"))
+        print(folder, "is a walk by hand: anew")
+        return
     fn = Function(made)
     comment, uses, found = blocks(text)
     uses = [u for u in uses if not re.search(r"\.(Statement\.\{statement\}|Tie as \w+|Reads as \S+|Lts as \S+)$", u)]
     goal = f"use Rattle.{crate}.proofs.{path}"
     inv, ans, gone = [], [], []
+    for block in found:
+        if not re.search(r"tie\.(Need|invariant-|decreases-|close)", "\n".join(block)):
+            fn.learn(block)
     for block in found:
         m = next((HEAD.match(x) for x in block if HEAD.match(x)), None)
         body = "\n".join(block)
@@ -130,7 +338,7 @@ def turn(folder, crate, path, made):
             continue
         elif n := re.search(r" : tie\.Need-(\S+)", body):
             old = n[1]
-            new = fn.needs.get(norm(old)) or fn.needs.get(norm(re.sub(r"^(?:overflow|nonzero|bounds)-", "", old)))
+            new = fn.needs.get(norm(re.sub(r"^(?:overflow|nonzero|bounds)-", "", old))) or fn.needs.get(norm(old))
             if not new:
                 gone.append((name, old))
                 ans.append("-- LEFT " + old + "\n" + "\n".join("-- " + x for x in block))
@@ -140,17 +348,30 @@ def turn(folder, crate, path, made):
             equations = re.sub(r"(?m)^" + re.escape(name) + r" =", f"{new} =", equations)
             if re.fullmatch(r"(?:--[^\n]*\n)*pub \S+ : \S+\s*\n\S+ c =\s*(search (rules|needs)|omega arith)", equations.strip()):
                 continue
-            ans.append(fn.places_of(fn.chains(equations)))
+            if fn.helpers:
+                e = re.search(r"(?m)^" + re.escape(new) + r" c(?= )", equations)
+                at = fn.asked[new]
+                env = {"c": (at,) if at in fn.typed else at}
+                if e:
+                    equations = equations[: e.end()] + fn.text(equations[e.end() :], env)[0]
+                ans.append(fn.types(equations))
+            else:
+                ans.append(fn.chains(equations))
         else:
-            ans.append(fn.places_of(fn.chains(body)))
+            ans.append(fn.helper(block))
     os.rename(os.path.join(folder, "Proof.antt"), os.path.join(folder, "Proof.old"))
     head = "\n".join(comment + uses)
     if inv:
-        with open(os.path.join(folder, "Invariants.antt"), "w") as f:
+        with open(os.path.join(folder, "Invariants.antt"), "w") as f:  # noqa
             f.write(head + "\n" + goal + ".Given as goal\n\n" + "\n\n".join(inv) + "\n")
     if ans:
         with open(os.path.join(folder, "Answers.antt"), "w") as f:
-            f.write(head + "\n" + goal + ".Goals as goal\n\n" + "\n\n".join(ans) + "\n")
+            text = "\n\n".join(ans) + "\n"
+            text = re.sub(r"not-(?:true|false) _ (\w[\w.-]*\.if-not-[^\s),]*)", r"\1", text)
+            for word, module in (("lts", "Lts"), ("tie", "Tie"), ("reads", "Reads")):
+                if f"{word}." in text:
+                    goal += f".Goals as goal\nuse Rattle.{crate}.proofs.{path}.{module} as {word}" if ".Goals" not in goal else f"\nuse Rattle.{crate}.proofs.{path}.{module} as {word}"
+            f.write(head + "\n" + goal + ("" if ".Goals" in goal else ".Goals as goal") + "\n\n" + text)
     if gone or "LEFT" in "".join(inv + ans): print(folder, "invariants", len(inv), "answers", len(ans), "gone", gone)
 
 

@@ -1,6 +1,6 @@
 -- A list judged and joined, entry by entry, and the answer that it gives.
 use mathlib.Core.Path.{◌≡◌, refl, sym, ap, ◌∙◌}
-use mathlib.Core.Bool.{true, false, not, ◌&&◌, and_true}
+use mathlib.Core.Bool.{true, false, not, ◌&&◌, and-true}
 use mathlib.Core.List.Memᴰ
 use mathlib.Core.List.{List, [], ◌∷◌, ◌++◌}
 use mathlib.Core.Logic.{⊎_elim}
@@ -31,7 +31,7 @@ use Rattle.open_calls.proofs.Notes.{noted_by, shown-is}
 module _ (s : Timestamp) where
   all_more : (l : List Timestamp) → each_passes valid (l ++ (s ∷ [])) ≡ (each_passes valid l && valid s)
   unfolding each_passes
-  all_more [] = and_true (valid s)
+  all_more [] = and-true (valid s)
   all_more (t ∷ l) = ⊎_elim (λ y. rw y (all_more l)) (λ z. rw z) (either_way (valid t))
 
   -- the first bad entry stays the first

@@ -23,10 +23,10 @@ has_before-requires c =
 abbrev Asked : Type 0
 Asked = lts.After-has_before tie.the-claims reads.Pre reads.Post goal.the-invariant-loop-k goal.the-decreases-loop-k
 
-abbrev turn_of : Asked → lts.At-loop tie.the-claims reads.Pre reads.Post goal.the-invariant-loop-k goal.the-decreases-loop-k
-turn_of h = h.before.before.before.before.before.before
+abbrev turn_of : Asked → (lts.At-loop tie.the-claims reads.Pre reads.Post goal.the-invariant-loop-k goal.the-decreases-loop-k)
+turn_of h = h.before.before.before.before.before.before.before.before
 
-abbrev start_of : Asked → lts.Start tie.the-claims reads.Pre reads.Post
+abbrev start_of : Asked → (lts.Start tie.the-claims reads.Pre reads.Post goal.the-invariant-loop-k goal.the-decreases-loop-k)
 start_of h = (turn_of h).before.before.before
 
 told : (h : Asked) → Both (start_of h).args.ticks.now (start_of h).args.globals.now (start_of h).args.a.now (start_of h).args.b.now (turn_of h).loop-k.k
@@ -36,12 +36,12 @@ told h = rw (h.event_at.ensures.0, h.event_at-in-loop-k.ensures.0) at h.has_befo
 pub returns-then-not-has_before : goal.returns-then-not-has_before
 returns-then-not-has_before c =
     let h = c in
-    λ t x y least p q. sym (before-not t x y _ _ p q _ least (turn_of h).loop-k.k h.loop-k-test.true (λ o. sym (told h o) ∙ not-true _ c.if-not-has_before.true))
+    λ t x y least p q. sym (before-not t x y _ _ p q _ least (turn_of h.before.before).loop-k.k h.loop-k-test.true (λ o. sym (told h.before.before o) ∙ c.if-not-has_before.true))
 
 pub loop-k-preserved : goal.loop-k-preserved
 loop-k-preserved c =
     let h = c in
-    (search rules, next_place _ _ (turn_of h).loop-k.invariant.1 (λ o. sym (told h o) ∙ not-false _ c.if-not-has_before.false))
+    (search rules, next_place _ _ (turn_of h.before.before).loop-k.invariant.1 (λ o. sym (told h.before.before o) ∙ c.if-not-has_before.false))
 
 pub returns : goal.returns
 returns c =

@@ -22,4 +22,4 @@ returns c =
     let own = g in
     let left = own.if-w-eq0.false in
     λ h. rw (ne_eqb _ _ left, sym (own.own_before.ensures (omega (arith, left))) ∙ own.if-own_before.false)
-    (c.clearly_earlier.ensures ∙ clear_wraps _ _ _ (search rules) g.global_of.ensures (h (omega (arith, left))))
+    (c.clearly_earlier.ensures ∙ clear_wraps _ _ _ (search rules) g.global_of-g.ensures (h (omega (arith, left))))

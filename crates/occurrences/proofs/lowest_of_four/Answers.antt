@@ -22,7 +22,7 @@ loop-k-preserved c =
     let at = one in
     let s = at in
     let e = ap (λ n. get_or s.args.globals.now n 0) one.event_at.ensures.0 in
-    (search rules, lowest_turn _ _ _ _ _ (search rules) (g.global_of.ensures ∙ e) c.earliest-low.ensures at.loop-k.invariant.1)
+    (search rules, lowest_turn _ _ _ _ _ (search rules) (g.global_of-g.ensures ∙ e) c.earliest-low.ensures at.loop-k.invariant.1)
 
 pub returns : goal.returns
 returns c = let e : c.loop-k.k ≡ 4 = omega (arith, c.loop-k.invariant.0, c.loop-k-test.false) in rw e at c.loop-k.invariant.1

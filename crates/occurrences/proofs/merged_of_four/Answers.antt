@@ -17,8 +17,8 @@ later_of-n-requires c =
     let k : in-loop.loop-k.k < 4 = in-loop.loop-k-test.true in
     (rw one.event_at.ensures.0 (s.requires.0 _ k), rw c.event_at-in-loop-k.ensures.0 (s.requires.1 _ k))
 
-pub overflow_mul-r : goal.overflow_mul-r
-overflow_mul-r c =
+pub offset_bounds-globals-n : goal.offset_bounds-globals-n
+offset_bounds-globals-n c =
     let h : c.later_of-n.result < 256 = rw c.later_of-n.ensures (later_one _ _ _ (λ n. n < 256) c.event_at.ensures.1 c.event_at-in-loop-k.ensures.1) in
     search (rules, h)
 

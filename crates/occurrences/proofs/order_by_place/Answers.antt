@@ -20,7 +20,7 @@ returns-then-not-weakly_by_place c =
     let two = c in
     let one = two in
     λ t x y l f p q. sym (word_incomparable t.clocks _ _ (sym (one.before-2.ensures t x y l p q) ∙ one.if-before.false) (sym (two.before-3.ensures t y x f q p) ∙ two.if-before-2.false)
-    (rw (sym (c.weakly_by_place.ensures t x y f p q) ∙ not-true _ c.if-not-weakly_by_place.true)))
+    (rw (sym (c.weakly_by_place.ensures t x y f p q) ∙ c.if-not-weakly_by_place.true)))
 
 pub returns-then-not-weakly_by_place-2 : goal.returns-then-not-weakly_by_place-2
 unfolding occurrence_order
@@ -29,7 +29,7 @@ returns-then-not-weakly_by_place-2 c =
     let two = three in
     let one = two in
     λ t x y l f p q. sym (word_incomparable t.clocks _ _ (sym (one.before-2.ensures t x y l p q) ∙ one.if-before.false) (sym (two.before-3.ensures t y x f q p) ∙ two.if-before-2.false)
-    (rw (sym (three.weakly_by_place.ensures t x y f p q) ∙ not-false _ three.if-not-weakly_by_place.false, sym (c.weakly_by_place-2.ensures t y x l q p) ∙ not-true _ c.if-not-weakly_by_place-2.true)))
+    (rw (sym (three.weakly_by_place.ensures t x y f p q) ∙ three.if-not-weakly_by_place.false, sym (c.weakly_by_place-2.ensures t y x l q p) ∙ c.if-not-weakly_by_place-2.true)))
 
 pub returns : goal.returns
 unfolding occurrence_order
@@ -38,4 +38,4 @@ returns c =
     let two = three in
     let one = two in
     λ t x y l f p q. sym (word_concurrent t.clocks _ _ (sym (one.before-2.ensures t x y l p q) ∙ one.if-before.false) (sym (two.before-3.ensures t y x f q p) ∙ two.if-before-2.false)
-    (sym (three.weakly_by_place.ensures t x y f p q) ∙ not-false _ three.if-not-weakly_by_place.false) (sym (c.weakly_by_place-2.ensures t y x l q p) ∙ not-false _ c.if-not-weakly_by_place-2.false))
+    (sym (three.weakly_by_place.ensures t x y f p q) ∙ three.if-not-weakly_by_place.false) (sym (c.weakly_by_place-2.ensures t y x l q p) ∙ c.if-not-weakly_by_place-2.false))

@@ -3,6 +3,9 @@ use Rattle.std.proofs.Common.{◌≡◌, ℕ, ◌-◌, ◌<◌, ◌≤◌, false
 use Rattle.occurrences.proofs.Befores.{Both, reached_at, weakly-each, weakly-not}
 use Rattle.occurrences.proofs.Steps.{next_place}
 use Rattle.occurrences.proofs.weakly_by_place.Goals as goal
+use Rattle.occurrences.proofs.weakly_by_place.Lts as lts
+use Rattle.occurrences.proofs.weakly_by_place.Tie as tie
+use Rattle.occurrences.proofs.weakly_by_place.Reads as reads
 
 pub loop-k-init : goal.loop-k-init
 loop-k-init c = (search rules, λ j l. absurd (omega (arith, l)))
@@ -17,13 +20,13 @@ is_reached-requires c =
 
 -- ---- what a turn tells of its place
 abbrev Asked : Type 0
-Asked = goal.After-is_reached
+Asked = lts.After-is_reached tie.the-claims reads.Pre reads.Post goal.the-invariant-loop-k goal.the-decreases-loop-k
 
-abbrev turn_of : Asked → goal.At-loop-k
-turn_of h = h
+abbrev turn_of : Asked → (lts.At-loop tie.the-claims reads.Pre reads.Post goal.the-invariant-loop-k goal.the-decreases-loop-k)
+turn_of h = h.before.before.before.before.before.before.before.before
 
-abbrev start_of : Asked → goal.Start
-start_of h = (turn_of h)
+abbrev start_of : Asked → (lts.Start tie.the-claims reads.Pre reads.Post goal.the-invariant-loop-k goal.the-decreases-loop-k)
+start_of h = (turn_of h).before.before.before
 
 told : (h : Asked) → Both (start_of h).args.ticks.now (start_of h).args.globals.now (start_of h).args.b.now (start_of h).args.a.now (turn_of h).loop-k.k
     → h.is_reached.result ≡ reached_at (start_of h).args.ticks.now (start_of h).args.globals.now (start_of h).args.b.now (start_of h).args.a.now (turn_of h).loop-k.k (start_of h).args.first.0
@@ -32,12 +35,12 @@ told h = rw (h.event_at.ensures.0, h.event_at-in-loop-k.ensures.0) at h.is_reach
 pub returns-then-is_reached : goal.returns-then-is_reached
 returns-then-is_reached c =
     let h = c in
-    λ t x y least p q. sym (weakly-not t y x _ _ q p _ least (turn_of h).loop-k.k h.loop-k-test.true (λ o. sym (told h o) ∙ c.if-is_reached.true))
+    λ t x y least p q. sym (weakly-not t y x _ _ q p _ least (turn_of h.before.before).loop-k.k h.loop-k-test.true (λ o. sym (told h.before.before o) ∙ c.if-is_reached.true))
 
 pub loop-k-preserved : goal.loop-k-preserved
 loop-k-preserved c =
     let h = c in
-    (search rules, next_place _ _ (turn_of h).loop-k.invariant.1 (λ o. sym (told h o) ∙ c.if-is_reached.false))
+    (search rules, next_place _ _ (turn_of h.before.before).loop-k.invariant.1 (λ o. sym (told h.before.before o) ∙ c.if-is_reached.false))
 
 pub returns : goal.returns
 returns c =

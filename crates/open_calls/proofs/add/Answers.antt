@@ -18,10 +18,10 @@ pub bounds-join-k-then-not-is_clear-2 : goal.bounds-join-k-then-not-is_clear-2
 bounds-join-k-then-not-is_clear-2 c = omega (arith, valid-place _ c.requires)
 
 pub returns-then-not-is_clear : goal.returns-then-not-is_clear
-returns-then-not-is_clear c = λ l v n. put_told (clocks_of c.args.ratio) l v _ c.requires _ n _ _ c.note_of-note.ensures c.global_note-global.ensures (sym c.is_earlier.ensures ∙ c.if-is_earlier.true) (sym c.is_clear.ensures ∙ not-true _ c.if-not-is_clear.true) _ c.make_room.ensures
+returns-then-not-is_clear c = record { joined = λ l v n. put_told (clocks_of c.args.ratio) l v _ c.requires _ n _ _ c.note_of-note.ensures c.global_note-global.ensures (sym c.is_earlier.ensures ∙ c.if-is_earlier.true) (sym c.is_clear.ensures ∙ c.if-not-is_clear.true) _ c.make_room.ensures }
 
 pub returns-else-not-is_clear : goal.returns-else-not-is_clear
-returns-else-not-is_clear c = λ l v n. clear_told (clocks_of c.args.ratio) l v _ c.requires _ n _ c.global_note-global.ensures (sym c.is_clear.ensures ∙ not-false _ c.if-not-is_clear.false)
+returns-else-not-is_clear c = record { joined = λ l v n. clear_told (clocks_of c.args.ratio) l v _ c.requires _ n _ c.global_note-global.ensures (sym c.is_clear.ensures ∙ c.if-not-is_clear.false) }
 
 pub returns-else-is_earlier : goal.returns-else-is_earlier
-returns-else-is_earlier c = λ l v n. late_told (clocks_of c.args.ratio) l v _ c.requires _ n _ c.note_of-note.ensures (sym c.is_earlier.ensures ∙ c.if-is_earlier.false)
+returns-else-is_earlier c = record { joined = λ l v n. late_told (clocks_of c.args.ratio) l v _ c.requires _ n _ c.note_of-note.ensures (sym c.is_earlier.ensures ∙ c.if-is_earlier.false) }

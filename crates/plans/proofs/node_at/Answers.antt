@@ -1,0 +1,15 @@
+-- `plans::node_at`: each field reads what the form has at its place, and fits there.
+use mathlib.Core.Path.{subst, sym}
+use native.Mathlib.Omega.{arith}
+use Rattle.plans.specs.Layout.{node}
+use Rattle.plans.proofs.Sections.{node_laws, node-value}
+use borrow.Author.Rules.{rules}
+use Rattle.plans.proofs.node_at.Goals as goal
+
+pub returns : goal.returns
+returns c =
+    let s = c in
+    let a = s.args in
+    let is = node-value a.bytes.now a.at _ _ _ _ _
+    c.number_at.ensures c.number_at-2.ensures c.number_at-3.ensures c.number_at-4.ensures c.number_at-5.ensures in
+    (is, subst node.fits (sym is) (node_laws.fit a.bytes.now a.at (λ i. omega (arith, s.shared_slice_known-1.given i)) s.requires))
