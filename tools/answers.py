@@ -62,7 +62,8 @@ class Function:
         self.loops = {norm(o[0]): (o[1], vars, changed) for (o, vars), changed in zip(made["loops"], made["changed"])}
         self.places, self.steps, self.parent, self.typed = {}, {}, {}, set()
         for (old, parent, (step, new), callee, _), typed in zip(made["places"], made["typed"]):
-            self.steps.setdefault(norm(step), new)
+            if "_" in step or not re.fullmatch(re.escape(step) + r"-\d+", new):  # else a name of Rattle's own, which may be a parameter's too
+                self.steps.setdefault(norm(step), new)
             self.places[norm(old)] = old
             self.parent[old] = parent
             if typed:
