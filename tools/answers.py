@@ -53,7 +53,13 @@ def blocks(text):
             now.append(line)
     if now:
         found.append(now)
-    return comment, uses, found
+    whole = []
+    for block in found:
+        if block[0].startswith(" ") and whole:
+            whole[-1] += ["", *block]
+        else:
+            whole.append(block)
+    return comment, uses, whole
 
 
 class Function:
@@ -92,9 +98,19 @@ class Function:
             return self.places.get(norm(m[1]))
         return self.alias.get(text)
 
+    MODULE = re.compile(r"module _ \(([^\s():]+) : ((?:[^()]|\([^()]*\))+)\)")
+    INNER = re.compile(r"(?m)^  (?:abbrev |pub |unfoldable )*([^\s:(){}]+) : ")
+
     def learn(self, block):
         """Notes a helper: what place it takes first, and what place it gives."""
         text = "\n".join(x for x in block if not x.lstrip().startswith("--"))
+        m = self.MODULE.match(text)
+        if m:
+            place = self.place_in(m[2])
+            if place:
+                for name in self.INNER.findall(text):
+                    self.helpers[name] = (place, None, None)
+            return
         m = re.match(r"(?:abbrev |pub |unfoldable )*([^\s:(){}]+)\s+:\s+", text)
         if not m:
             return
@@ -105,7 +121,7 @@ class Function:
                 self.alias[m[1]] = place
             return
         sig = re.split(r"(?m)^(?:unfolding .*\n)?" + re.escape(m[1]) + r"(?= )", text[m.end() :])[0]
-        b = re.match(r"\(([^\s():]+) : ((?:[^()]|\([^()]*\))+)\)\s*→(.*)", sig, re.S)
+        b = re.match(r"\(([^\s():]+) : ((?:[^()]|\([^()]*\))+)\)\s*→?(.*)", sig, re.S)
         c = None if b else re.match(r"((?:[^()→]|\([^()]*\))+?)\s*→(.*)", sig, re.S)
         first = b[2] if b else c[1] if c else ""
         place = self.place_in(first)
@@ -143,7 +159,7 @@ class Function:
                         deep -= 1
                     if deep == 0 and re.match(r"let\b", body[k:]) and body[k - 1].isspace():
                         deep += 0
-                    if deep == 0 and re.match(r"\sin\b", body[k:]):
+                    if deep == 0 and re.match(r"\sin(?=\s)", body[k:]):
                         break
                     k += 1
                 value, place = self.text(body[j:k], env)
@@ -213,6 +229,13 @@ class Function:
     def helper(self, block):
         """A helper with its places counted anew."""
         text = "\n".join(block)
+        m = re.search(r"(?m)^module _ ", text) and self.MODULE.search(text)
+        if m and self.place_in(m[2]):
+            inner, all_helpers = set(self.INNER.findall(text)), self.helpers
+            self.helpers = {n: h for n, h in all_helpers.items() if n not in inner}
+            new = text[: m.end()] + self.text(text[m.end() :], {m[1]: self.place_in(m[2])})[0]
+            self.helpers = all_helpers
+            return self.types(new)
         m = re.search(r"(?m)^(?:abbrev |pub |unfoldable )*([^\s:(){}-][^\s:(){}]*)\s+:\s+", text)
         name = m[1]
         if name in self.alias or name not in self.helpers:
@@ -322,13 +345,16 @@ def turn(folder, crate, path, made):
     comment, uses, found = blocks(text)
     uses = [u for u in uses if not re.search(r"\.(Statement\.\{statement\}|Tie as \w+|Reads as \S+|Lts as \S+)$", u)]
     goal = f"use Rattle.{crate}.proofs.{path}"
-    inv, ans, gone = [], [], []
+    inv, ans, gone, plain = [], [], [], []
     for block in found:
         if not re.search(r"tie\.(Need|invariant-|decreases-|close)", "\n".join(block)):
             fn.learn(block)
     for block in found:
         m = next((HEAD.match(x) for x in block if HEAD.match(x)), None)
         body = "\n".join(block)
+        if not m and any(x.startswith("module _ ") for x in block):
+            ans.append(fn.helper(block))
+            continue
         if not m:
             ans.append("-- LEFT\n" + body)
             continue
@@ -360,15 +386,27 @@ def turn(folder, crate, path, made):
                 ans.append(fn.chains(equations))
         else:
             ans.append(fn.helper(block))
+            if ans[-1] == body:
+                plain.append(block)
     os.rename(os.path.join(folder, "Proof.antt"), os.path.join(folder, "Proof.old"))
     head = "\n".join(comment + uses)
+    moved = []
+    for k, block in enumerate(plain):
+        name = next((HEAD.match(x)[1] for x in block if HEAD.match(x)), None)
+        if name and inv and any(name in TOKEN.findall(x) for x in inv):
+            moved.append(name)
+            text = "\n".join(block)
+            ans.remove(text)
+            inv.insert(len(moved) - 1, re.sub(r"(?m)^(abbrev )?(?=" + re.escape(name) + " :)", lambda m: (m[1] or "") + "pub ", text))
+    if moved:
+        head += f"\nuse Rattle.{crate}.proofs.{path}.Invariants.{{{', '.join(moved)}}}"
     if inv:
         with open(os.path.join(folder, "Invariants.antt"), "w") as f:  # noqa
-            f.write(head + "\n" + goal + ".Given as goal\n\n" + "\n\n".join(inv) + "\n")
+            f.write("\n".join(x for x in head.split("\n") if ".Invariants.{" not in x) + "\n" + goal + ".Given as goal\n\n" + "\n\n".join(inv) + "\n")
     if ans:
         with open(os.path.join(folder, "Answers.antt"), "w") as f:
             text = "\n\n".join(ans) + "\n"
-            text = re.sub(r"not-(?:true|false) _ (\w[\w.-]*\.if-not-[^\s),]*)", r"\1", text)
+            text = re.sub(r"not-(?:true|false) (?:_|\w[\w.-]*) (\w[\w.-]*\.if-not-[^\s),]*)", r"\1", text)
             for word, module in (("lts", "Lts"), ("tie", "Tie"), ("reads", "Reads")):
                 if f"{word}." in text:
                     goal += f".Goals as goal\nuse Rattle.{crate}.proofs.{path}.{module} as {word}" if ".Goals" not in goal else f"\nuse Rattle.{crate}.proofs.{path}.{module} as {word}"

@@ -1,0 +1,22 @@
+-- No middle before place j blocks it; only the first `blockers` of them are looked at.
+use Rattle.std.proofs.Common.{◌≡◌, ℕ, ◌-◌, ◌<◌, ◌≤◌, true, false, List, length, get_or, take, drop, sym, refl, ap, ◌∙◌, arith, length-take-le, get_or-take, rules}
+use Rattle.contexts.proofs.Absences.{any_here, any_later, any_past}
+use Rattle.contexts.specs.Choice.{blocks}
+use Rattle.occurrences.proofs.Packed.{stands-within}
+use Rattle.occurrences.specs.Occurrences.{no_occurrence}
+use Rattle.occurrences.specs.Packed.{Notes, Stands}
+use Rattle.occurrences.specs.Steps.{LowestOf}
+use Rattle.occurrences.specs.declared.Occurrence.{Occurrence}
+use Rattle.sequences.specs.Select.{some_passes}
+use Rattle.waiting_lists.proofs.Waits.{read_at, read-bytes, read-few, read-place, read_small, waits-length}
+use Rattle.waiting_lists.specs.Lists.{Waits}
+use Rattle.waiting_lists.specs.declared.WaitingList.{WaitingList}
+use Rattle.contexts.proofs.is_blocked.Given as goal
+
+abbrev pub invariant-loop-j : goal.invariant-loop-j
+invariant-loop-j v =
+    (v.j ≤ v.blockers) × ((t : Notes v.ticks v.globals) (l : List Occurrence) (x z : Occurrence) → LowestOf v.globals v.left v.low.0 → LowestOf v.globals v.o v.first.0 → Waits t v.middles l
+    → Stands t v.left x → Stands t v.o z → some_passes (blocks t.clocks x z) (drop v.j (take v.blockers l)) ≡ some_passes (blocks t.clocks x z) (take v.blockers l))
+
+abbrev pub decreases-loop-j : goal.decreases-loop-j
+decreases-loop-j l = l.blockers - l.j

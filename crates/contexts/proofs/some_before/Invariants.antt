@@ -1,0 +1,26 @@
+-- What is left to look at tells the whole; i is the first mark left.
+use Rattle.std.proofs.Common.{◌≡◌, ℕ, ◌<◌, ◌≤◌, Bool, List, [], length, get_or, sym, refl, ap, ◌∙◌, arith, rules}
+use Rattle.contexts.proofs.Accumulations.{some-here, some-later}
+use Rattle.event_sets.proofs.Words.{rest_less}
+use Rattle.occurrences.proofs.Packed.{stands-within}
+use Rattle.occurrences.specs.Occurrences.{is_before, no_occurrence}
+use Rattle.occurrences.specs.Packed.{Notes, Stands, Within}
+use Rattle.occurrences.specs.declared.Occurrence.{Occurrence}
+use Rattle.sequences.proofs.Marks.{marked-none}
+use Rattle.sequences.specs.Marks.{first_mark, marked}
+use Rattle.sequences.specs.Select.{some_passes}
+use Rattle.timestamps.specs.declared.Order.TheVariants.{Before}
+use Rattle.timestamps.specs.Comparison.{same_order}
+use Rattle.waiting_lists.proofs.Marks.{first_some, length_marks, marks_rest}
+use Rattle.waiting_lists.proofs.Waits.{read_at, read-bytes, read-few, read_length, read-place, read_small}
+use Rattle.waiting_lists.specs.Lists.{Waits}
+use Rattle.waiting_lists.specs.Marks.{marks_of}
+use Rattle.contexts.proofs.some_before.Given as goal
+
+abbrev pub invariant-loop-i : goal.invariant-loop-i
+invariant-loop-i v =
+    (v.i ≡ first_mark (marks_of v.rest)) × ((t : Notes v.ticks v.globals) (l : List Occurrence) (x : Occurrence) → Waits t v.list l → Stands t v.middle x
+    → some_passes (λ w. is_before t.clocks w x) (marked l (marks_of v.rest)) ≡ some_passes (λ w. is_before t.clocks w x) (marked l (marks_of v.marks)))
+
+abbrev pub decreases-loop-i : goal.decreases-loop-i
+decreases-loop-i l = l.rest
