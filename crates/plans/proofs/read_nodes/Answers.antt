@@ -18,7 +18,6 @@ use Rattle.plans.proofs.Sections.{node-piece}
 use Rattle.plans.proofs.Slots.{slotted-more, slotted-none}
 use borrow.Author.Rules.{rules}
 use Rattle.plans.proofs.read_nodes.Goals as goal
-use Rattle.plans.proofs.read_nodes.Tie as tie
 
 pub returns-then-not-is_none : goal.returns-then-not-is_none
 returns-then-not-is_none c =
@@ -44,10 +43,6 @@ loop-i-init c =
       count_go (nodes a.kinds) a.bytes.now a.start _ _ _ r.ensures.0 (sym c.is_none.ensures ∙ c.if-not-is_none.false),
       slotted-none _ _ refl,
     )
-
--- LEFT bounds-1-read-node
--- index-1-read-node : tie.Need-bounds-1-read-node invariant-loop decreases-loop
--- index-1-read-node c = omega arith
 
 pub read_node-n-requires : goal.read_node-n-requires
 read_node-n-requires c = (c.requires, omega arith)
@@ -76,7 +71,7 @@ loop-i-preserved c =
     let a = s.args in
     let i = s.loop-i.i in
     let l : List Node = map node_of s.loop-i.into in
-    let row : List ℕ = r.new.1.1.1.1.0 in
+    let row : List ℕ = r.new.row in
     let e = r.ensures.0 ∙ node-piece a.bytes.now s.loop-i.at 1 a.kinds i (take i l) (length-take-le i l (omega arith)) in
     let good = sym c.is_none-in-loop-i.ensures ∙ c.if-not-is_none-2.false in
     let kept = r.ensures.1 (eqb-true (number_of r.result.fault) 0 good) in

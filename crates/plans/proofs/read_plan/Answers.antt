@@ -33,13 +33,13 @@ bytes₄ c = bytes₃ c.before.before.before.before
 
 -- the lists that it filled
 abbrev loggers-in : (lts.Else2 tie.the-claims reads.Pre reads.Post) → List ℕ
-loggers-in c = c.read_loggers-l.new.1.1.0
+loggers-in c = c.read_loggers-l.new.into
 
 abbrev kinds-in : (lts.Else3 tie.the-claims reads.Pre reads.Post) → List ℕ
-kinds-in c = c.read_kinds-k.new.1.1.0
+kinds-in c = c.read_kinds-k.new.into
 
 abbrev nodes-in : (lts.Else4 tie.the-claims reads.Pre reads.Post) → List (List ℕ)
-nodes-in c = c.read_nodes-n.new.1.1.1.0
+nodes-in c = c.read_nodes-n.new.into
 
 clocks-got : (c : (lts.Else1 tie.the-claims reads.Pre reads.Post)) → section clocks (bytes₁ c) 0 ≡ got (c.read_clocks-c.result.value ∷ []) c.read_clocks-c.result.at
 clocks-got c = seen-got _ _ _ _ c.read_clocks-c.ensures (sym c.is_none.ensures ∙ c.if-not-is_none.false)
