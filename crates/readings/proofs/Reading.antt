@@ -1,6 +1,6 @@
 -- The reader's sections and its whole: what each place of the code needs.
 use mathlib.Core.Path.{◌≡◌, refl, sym, ap, ◌∙◌}
-use mathlib.Core.Bool.{Bool, true, false, ◌&&◌, and_true, and-false, and_assoc}
+use mathlib.Core.Bool.{Bool, true, false, ◌&&◌, and-true, and-false, and_assoc}
 use mathlib.Core.List.Memᴰ
 use mathlib.Core.List.{List, [], ◌∷◌, ◌++◌}
 use mathlib.Core.Logic.{⊎_elim, inl, inr}
@@ -85,7 +85,7 @@ Least l least = (v : ℕ) → each_passes (λ m. ltb m v) l ≡ leb least v
 
 all_snoc : (p : ℕ → Bool) (l : List ℕ) (n : ℕ) → each_passes p (l ++ (n ∷ [])) ≡ (each_passes p l && p n)
 unfolding each_passes
-all_snoc p [] n = and_true (p n)
+all_snoc p [] n = and-true (p n)
 all_snoc p (a ∷ l) n = rw (all_snoc p l n) (sym (and_assoc (p a) (each_passes p l) (p n)))
 
 least_more : (l : List ℕ) (least n : ℕ) → Least l least → least ≤ n → Least (l ++ (n ∷ [])) (n + 1)

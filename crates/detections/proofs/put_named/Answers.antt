@@ -1,0 +1,80 @@
+-- The stamps that the bytes left name, written from here, make all of them.
+use Prim.Native.Nat.{◌^◌, ◌<◌}
+use native.Mathlib.Omega.{arith}
+use Rattle.occurrences.specs.Steps.{Inside}
+use Rattle.detections.specs.Steps.{named_bytes, stamp_bytes}
+use Rattle.detections.proofs.LowestByte.{lowest-fewer, lowest-inside, lowest_named, lowest-place, lowest-within}
+use Rattle.detections.proofs.Stamps.{named_turn, named_end}
+use Rattle.detections.proofs.Writing.{Writes, writes_start, writes_room, writes_turn, writes_end}
+use borrow.Author.Rules.{rules}
+use Rattle.detections.proofs.put_named.Goals as goal
+
+pub loop-rest-init : goal.loop-rest-init
+loop-rest-init c = let s = c in (search rules, s.requires.0, writes_start _ _ _ s.requires.2)
+
+pub overflow_cast-k : goal.overflow_cast-k
+overflow_cast-k c = omega (arith, lowest-place c.loop-rest.rest c.loop-rest-test.true c.loop-rest.invariant.0)
+
+pub overflow_mul-event : goal.overflow_mul-event
+overflow_mul-event c = omega (arith, lowest-place c.loop-rest.rest c.loop-rest-test.true c.loop-rest.invariant.0)
+
+pub overflow_shr-event : goal.overflow_shr-event
+overflow_shr-event c = omega (arith, lowest-place c.loop-rest.rest c.loop-rest-test.true c.loop-rest.invariant.0)
+
+pub offset_bounds-loggers-k : goal.offset_bounds-loggers-k
+offset_bounds-loggers-k c = omega (arith, lowest-place c.loop-rest.rest c.loop-rest-test.true c.loop-rest.invariant.0)
+
+pub bounds-loggers-k : goal.bounds-loggers-k
+bounds-loggers-k c = omega (arith, lowest-place c.loop-rest.rest c.loop-rest-test.true c.loop-rest.invariant.0)
+
+pub put_stamp-to-requires : goal.put_stamp-to-requires
+put_stamp-to-requires c =
+    let t = c in
+    let a = t in
+    let s = a in
+    let rest = a.loop-rest.rest in
+    let turn = named_turn s.args.ticks.now s.args.loggers.now s.requires.1 rest t.loop-rest-test.true a.loop-rest.invariant.0 in
+    (lowest_named rest t.loop-rest-test.true a.loop-rest.invariant.0 s.args.ticks.now a.loop-rest.invariant.1, writes_room a.loop-rest.invariant.2 (stamp_bytes _ _) _ turn)
+
+pub overflow_mul-rest : goal.overflow_mul-rest
+overflow_mul-rest c =
+    let t = c in
+    let l = t.loop-rest in
+    omega (arith, lowest-place l.rest t.loop-rest-test.true l.invariant.0)
+
+pub overflow_shl-rest : goal.overflow_shl-rest
+overflow_shl-rest c =
+    let t = c in
+    let l = t.loop-rest in
+    omega (arith, lowest-place l.rest t.loop-rest-test.true l.invariant.0)
+
+pub overflow_sub-rest : goal.overflow_sub-rest
+overflow_sub-rest c =
+    let t = c in
+    let l = t.loop-rest in
+    lowest-within l.rest t.loop-rest-test.true l.invariant.0
+
+pub loop-rest-smaller : goal.loop-rest-smaller
+loop-rest-smaller c =
+    let t = c in
+    let l = t.loop-rest in
+    lowest-fewer l.rest t.loop-rest-test.true l.invariant.0
+
+pub loop-rest-preserved : goal.loop-rest-preserved
+loop-rest-preserved c =
+    let t = c in
+    let a = t in
+    let s = a in
+    let rest = a.loop-rest.rest in
+    let p = t.loop-rest-test.true in
+    let h = a.loop-rest.invariant.0 in (
+      omega (arith, lowest-fewer rest p h, h),
+      lowest-inside rest p h s.args.ticks.now a.loop-rest.invariant.1,
+      writes_turn a.loop-rest.invariant.2 (named_turn s.args.ticks.now s.args.loggers.now s.requires.1 rest p h) c.put_stamp-to.ensures,
+    )
+
+pub returns : goal.returns
+returns c =
+    let a = c in
+    let s = a in
+    writes_end a.loop-rest.invariant.2 (named_end s.args.ticks.now s.args.loggers.now s.requires.1 a.loop-rest.rest c.loop-rest-test.false)

@@ -1,0 +1,17 @@
+-- The stamps that the bytes left name, written from here, make all of them.
+use Prim.Native.Nat.{◌^◌, ◌<◌}
+use native.Mathlib.Omega.{arith}
+use Rattle.occurrences.specs.Steps.{Inside}
+use Rattle.detections.specs.Steps.{named_bytes, stamp_bytes}
+use Rattle.detections.proofs.LowestByte.{lowest-fewer, lowest-inside, lowest_named, lowest-place, lowest-within}
+use Rattle.detections.proofs.Stamps.{named_turn, named_end}
+use Rattle.detections.proofs.Writing.{Writes, writes_start, writes_room, writes_turn, writes_end}
+use borrow.Author.Rules.{rules}
+use Rattle.detections.proofs.put_named.Given as goal
+
+abbrev pub invariant-loop-rest : goal.invariant-loop-rest
+invariant-loop-rest l =
+    (l.rest < 2 ^ 64) × Inside 8 l.ticks l.rest × Writes l.initial.out l.at (named_bytes l.ticks l.loggers 8 0 l.packed) l.out l.to (named_bytes l.ticks l.loggers 8 0 l.rest)
+
+abbrev pub decreases-loop-rest : goal.decreases-loop-rest
+decreases-loop-rest l = l.rest

@@ -1,0 +1,31 @@
+-- The stamps, and then their count in front of them.
+use native.Mathlib.Omega.{arith}
+use Rattle.detections.specs.Findings.{stamp}
+use Rattle.detections.specs.Views.{written_stamps}
+use Rattle.detections.proofs.Findings.{count_room, entries-counted, entries-room, section_done}
+use Rattle.detections.proofs.Sizes.{stamp_laws}
+use borrow.Author.Rules.{rules}
+use Rattle.detections.proofs.put_stamp_section.Goals as goal
+
+pub put_stamps-to-requires : goal.put_stamps-to-requires
+put_stamps-to-requires c =
+    let s = c in
+    let a = s.args in
+    (s.requires.0, s.requires.1, entries-room stamp stamp_laws (written_stamps a.ticks.now a.loggers.now a.o.now) a.out.now a.at s.requires.2)
+
+pub put_u16-requires : goal.put_u16-requires
+put_u16-requires c =
+    let put = c in
+    let s = put in
+    let a = s.args in
+    count_room stamp stamp_laws (written_stamps a.ticks.now a.loggers.now a.o.now) a.out.now a.at s.requires.2 put.put_stamps-to.ensures
+
+pub returns : goal.returns
+returns c =
+    let count = c in
+    let put = count in
+    let s = put in
+    let a = s.args in
+    let stamps = written_stamps a.ticks.now a.loggers.now a.o.now in
+    let counted = entries-counted stamp stamp_laws stamps a.out.now a.at s.requires.2 put.put_stamps-to.ensures in
+    section_done stamp stamp_laws stamps a.out.now a.at s.requires.2 put.put_stamps-to.ensures (omega (arith, counted)) count.put_u16.ensures

@@ -1,0 +1,30 @@
+-- The count so far and what is left from place k on make the whole.
+use mathlib.Core.Path.{◌≡◌}
+use Prim.Native.Nat.{◌+◌, ◌-◌, ◌≤◌}
+use native.Mathlib.Omega.{arith}
+use lib.ListN.{length}
+use Rattle.timestamps.specs.Composite.{members}
+use Rattle.occurrences.specs.Packed.{words_of}
+use Rattle.occurrences.proofs.Words.{latest_of}
+use Rattle.detections.proofs.Stamps.{count_from, count-start, count_turn, count_end}
+use borrow.Author.Rules.{rules}
+use Rattle.detections.proofs.timestamp_count.Goals as goal
+
+pub loop-k-init : goal.loop-k-init
+loop-k-init c = let a = c.args in (search rules, search rules, omega (arith, count-start (words_of a.ticks.now a.o.now)))
+
+pub word_at-requires : goal.word_at-requires
+word_at-requires c = (search rules, c.requires c.loop-k.k (search rules))
+
+pub loop-k-preserved : goal.loop-k-preserved
+loop-k-preserved c =
+    let a = c in
+    let s = a.args in
+    let turn = count_turn (words_of s.ticks.now s.o.now) a.loop-k.k _ (search rules) c.word_at.ensures in
+    (search rules, search rules, omega (arith, turn, c.one_if-n.ensures.0, a.loop-k.invariant.2))
+
+pub returns : goal.returns
+returns c =
+    let a = c in
+    let s = a.args in
+    (omega (arith, count_end (words_of s.ticks.now s.o.now) a.loop-k.k (search rules), a.loop-k.invariant.2), search rules)

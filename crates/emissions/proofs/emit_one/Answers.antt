@@ -1,0 +1,53 @@
+-- One of three ways.
+use mathlib.Core.Bool.{not}
+use mathlib.Core.Path.{◌≡◌, ap}
+use Prim.Native.Nat.{◌<◌}
+use native.Mathlib.Omega.{arith}
+use lib.ListN.{length}
+use Rattle.detections.specs.Views.{finding_of}
+use Rattle.detections.specs.Writing.{Wrote}
+use Rattle.detections.proofs.Sizes.{beyond_finding}
+use Rattle.detections.proofs.Writing.{beyond_none}
+use Rattle.occurrences.specs.Packed.{occurrence_of}
+use Rattle.emissions.specs.Emissions.{bytes_in, bytes_of, made_in}
+use Rattle.emissions.proofs.Emitting.{emits_ninth, emits_no_room, emits_go, has_room, no_room}
+use borrow.Author.Rules.{rules}
+use Rattle.emissions.proofs.emit_one.Goals as goal
+
+pub returns-then-most-n : goal.returns-then-most-n
+returns-then-most-n c =
+    let eight : length c.args.made.now ≡ 8 = search rules in
+    record {
+      emits = λ globals t s x h o. emits_ninth t _ _ h o eight (omega (arith, eight, c.if-most-n.true));
+      beyond = beyond_none c.requires.2.0 c.requires.2.1;
+    }
+
+pub returns-then-not-fits : goal.returns-then-not-fits
+returns-then-not-fits c =
+    let a = c.args in
+    let eight : length a.made.now ≡ 8 = search rules in
+    let below : made_in a.tally.now < 8 = omega (arith, eight, c.if-most-n.false) in
+    let size = no_room _ _ _ c.requires.2.0 (c.fits.ensures a.loggers.now a.place) (ap not c.if-not-fits.true) in
+    record {
+      emits = λ globals t s x h o. emits_no_room t _ _ h o eight below c.requires.2.0 size;
+      beyond = beyond_none c.requires.2.0 c.requires.2.1;
+    }
+
+pub write-next-requires : goal.write-next-requires
+write-next-requires c =
+    let a = c.args in
+    (c.requires.0, c.requires.1, has_room _ _ _ c.requires.2.0 (c.fits.ensures a.loggers.now a.place) (ap not c.if-not-fits.false))
+
+pub returns : goal.returns
+returns c =
+    let a = c.args in
+    let eight : length a.made.now ≡ 8 = search rules in
+    let below : made_in a.tally.now < 8 = omega (arith, eight, c.if-most-n.false) in
+    let size = has_room _ _ _ c.requires.2.0 (c.fits.ensures a.loggers.now a.place) (ap not c.if-not-fits.false) in
+    let found = occurrence_of a.ticks.now a.o.now in
+    let bytes = bytes_of a.loggers.now a.place found in
+    let w : Wrote a.out.now (bytes_in a.tally.now) bytes c.write-next.result c.write-next.new.out = c.write-next.ensures in
+    record {
+      emits = λ globals t s x h o. emits_go t _ _ h o eight below c.requires.2.0 size w;
+      beyond = beyond_finding (finding_of a.loggers.now a.place found.latest found.events) size c.requires.2.1 w;
+    }

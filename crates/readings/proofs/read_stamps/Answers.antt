@@ -1,0 +1,54 @@
+-- `readings::read_stamps`: the count, and a loop: the stamps that are left, read from here after those held, are all of them.
+use mathlib.Core.Path.{◌≡◌, refl, ◌∙◌}
+use mathlib.Core.List.{[]}
+use Prim.Native.Nat.{◌+◌, ◌-◌, ◌≤◌, ◌<◌}
+use native.Mathlib.Omega.{arith}
+use lib.ListN.{length, take, length-set}
+use borrow.Author.Tests.{not-true, not-false}
+use Rattle.forms.specs.Sections.{entries}
+use Rattle.forms.proofs.Sections.{turn_go, turn_stop, turn_end}
+use Rattle.readings.specs.Reader.{stamp_section}
+use Rattle.readings.specs.Steps.{no_stamp}
+use Rattle.readings.proofs.Reading.{count_broken, count-begun, stamp-read, stamp-cut}
+use borrow.Author.Rules.{rules}
+use Rattle.readings.proofs.read_stamps.Goals as goal
+
+pub returns-then-not-counted : goal.returns-then-not-counted
+returns-then-not-counted c =
+    let r = c.read_u16-counted in
+    let a = c.args in
+    count_broken stamp_section a.bytes.now a.start r.result.whole r.result.value r.result.next r.ensures.0 (not-true _ c.if-not-counted.true) []
+
+pub loop-i-init : goal.loop-i-init
+loop-i-init c = (search rules, refl, refl)
+
+pub returns-then-left-lt-STAMP_WIDTH : goal.returns-then-left-lt-STAMP_WIDTH
+returns-then-left-lt-STAMP_WIDTH c =
+    let s = c in
+    let r = s.read_u16-counted in
+    let a = s.args in
+    let b = a.bytes.now in
+    turn_stop stamp_section b r.result.value s.loop-i.i s.loop-i.stamps s.loop-i.at _ s.loop-i.invariant.2 1 no_stamp s.loop-i.at (search rules) (stamp-cut b s.loop-i.at no_stamp (omega arith)) refl []
+    ∙ count-begun stamp_section b a.start r.result.whole r.result.value r.result.next r.ensures.0 (not-false _ s.if-not-counted.false)
+
+pub loop-i-preserved : goal.loop-i-preserved
+loop-i-preserved c =
+    let s = c in
+    let a = s.args in
+    let b = a.bytes.now in
+    let r = s.read_u16-counted in
+    let h : s.loop-i.at + 10 ≤ length b = omega arith in
+    let j : s.loop-i.i < length s.loop-i.stamps = omega arith in (
+      search rules,
+      simp length-set (omega arith),
+      turn_go stamp_section b r.result.value s.loop-i.i s.loop-i.stamps s.loop-i.at _ s.loop-i.invariant.2 0 c.stamp_at.result (s.loop-i.at + 10) (search rules) j (stamp-read b s.loop-i.at c.stamp_at.result h c.stamp_at.ensures) refl,
+    )
+
+pub returns : goal.returns
+returns c =
+    let s = c in
+    let r = s.read_u16-counted in
+    let a = s.args in
+    let b = a.bytes.now in
+    turn_end stamp_section b r.result.value s.loop-i.i s.loop-i.stamps s.loop-i.at _ s.loop-i.invariant.2 (omega arith)
+    ∙ count-begun stamp_section b a.start r.result.whole r.result.value r.result.next r.ensures.0 (not-false _ s.if-not-counted.false)
