@@ -6,6 +6,7 @@ usage: python3 tools/answers.py CRATE NAMES    NAMES is the names.json that `rt 
 It goes by text: a check says what is left to mend. Answers that only search, which the check does by itself, are left out.
 """
 
+import glob
 import json
 import os
 import re
@@ -62,8 +63,31 @@ def blocks(text):
     return comment, uses, whole
 
 
+def labels():
+    """The names of each function's `ensures`, by crate::path::name."""
+    found = {}
+    for path in glob.glob("crates/*/src/*.rt"):
+        crate, owner = path.split("/")[1], ""
+        with open(path) as f:
+            text = f.read()
+        for m in re.finditer(r"(?m)^impl (\w+)|^(?:    )?(?:pub )?fn (\w+)([^{;]*?\n(?: +(?:requires|ensures)[^\n]*\n(?:  +[^\n]*\n)*?)*) *\{$|^\}", text):
+            if m[0] == "}":
+                owner = ""
+            elif m[1]:
+                owner = m[1] + "::"
+            else:
+                found[f"{crate}::{owner}{m[2]}"] = [x for x in re.findall(r"(?m)^ +ensures (\w+) \{", m[3])]
+    return found
+
+
 class Function:
-    def __init__(self, made):
+    LABELS = None
+
+    def __init__(self, made, me):
+        Function.LABELS = Function.LABELS or labels()
+        self.own = self.LABELS.get(me, [])
+        self.handed = any(made["clauses"])
+        self.callees = {norm(step): self.LABELS.get(callee, []) for _, _, (step, _), callee, _ in made["places"] if callee}
         self.needs = {norm(o): n for o, n in made["needs"]}
         self.loops = {norm(o[0]): (o[1], vars, changed) for (o, vars), changed in zip(made["loops"], made["changed"])}
         self.places, self.steps, self.parent, self.typed = {}, {}, {}, set()
@@ -220,6 +244,27 @@ class Function:
             only = None
         return "".join(out), only
 
+    def record(self, text):
+        """An answer that is a tuple with a part for each clause, as a record."""
+        end = text.rstrip()
+        if len(self.own) < 2 or not end.endswith(")"):
+            return text
+        for p in range(len(end)):
+            if end[p] == "(" and closing(end, p) == len(end) and re.search(r"(=|\bin)\s*$", end[:p]):
+                parts, deep, start, inner = [], 0, 0, end[p + 1 : -1]
+                for k, ch in enumerate(inner):
+                    deep += (ch in "([{") - (ch in ")]}")
+                    if ch == "," and deep == 0:
+                        parts.append(inner[start:k])
+                        start = k + 1
+                if inner[start:].strip():
+                    parts.append(inner[start:])
+                if len(parts) != len(self.own):
+                    return text
+                fields = "\n".join(f"      {n} = {x.strip()};" for n, x in zip(self.own, parts))
+                return end[:p] + "record {\n" + fields + "\n    }"
+        return text
+
     def up(self, place, goal):
         if isinstance(place, tuple):
             n = self.above(place[0], goal)
@@ -267,7 +312,8 @@ class Function:
             place = self.places.get(norm(m[1]))
             loops = [new for new, _, _ in self.loops.values()]
             given = "".join(f" goal.the-invariant-{x} goal.the-decreases-{x}" for x in loops) if m[2] else ""
-            new = f"lts.{place} tie.the-claims reads.Pre reads.Post{given}"
+            handed = " tie.handed_clauses" if self.handed else ""
+            new = f"lts.{place} tie.the-claims reads.Pre reads.Post{given}{handed}"
             return new if re.search(r"= $", text[: m.start()]) else f"({new})" if text[m.start() - 1 : m.start()] != "(" else new
 
         return re.sub(r"tie\.((?:After|Start|Else|In|At|Then)[^\s().,:]*)((?: (?:invariant|decreases)-[^\s)]+)*)", one, text)
@@ -289,6 +335,14 @@ class Function:
             return f".{m[1]}.new.{names[k]}" if names and k < len(names) else m[0]
 
         text = re.sub(r"\.((?!\d)[^\s(){}\[\],;.:λ]+)\.new((?:\.1)*)\.0(?!\w)", last, text)
+
+        def clause(m):
+            names = self.callees.get(norm(m[1]), [])
+            if len(names) > 1 and m[2] and int(m[2][1:]) < len(names):
+                return f".{m[1]}.ensures.{names[int(m[2][1:])]}"
+            return f".{m[1]}.ensures.{names[0]}{m[2] or ''}" if len(names) == 1 else m[0]
+
+        text = re.sub(r"\.((?!\d)[^\s(){}\[\],;.:λ]+)\.ensures(\.\d)?(?![\w])", clause, text)
         return re.sub(r"\.((?!\d)[^\s(){}\[\];,.:λ]+)", one, text)
 
     def places_of(self, text):
@@ -341,7 +395,7 @@ def turn(folder, crate, path, made):
         os.remove(os.path.join(folder, "Proof.antt"))
         print(folder, "is a walk by hand: anew")
         return
-    fn = Function(made)
+    fn = Function(made, f"{crate}::{path.replace('.', '::')}")
     comment, uses, found = blocks(text)
     uses = [u for u in uses if not re.search(r"\.(Statement\.\{statement\}|Tie as \w+|Reads as \S+|Lts as \S+)$", u)]
     goal = f"use Rattle.{crate}.proofs.{path}"
@@ -375,6 +429,8 @@ def turn(folder, crate, path, made):
             equations = re.sub(r"(?m)^" + re.escape(name) + r" =", f"{new} =", equations)
             if re.fullmatch(r"(?:--[^\n]*\n)*pub \S+ : \S+\s*\n\S+ c =\s*(search (rules|needs)|omega arith)", equations.strip()):
                 continue
+            if new.startswith("returns"):
+                equations = fn.record(equations)
             if fn.helpers:
                 e = re.search(r"(?m)^" + re.escape(new) + r" c(?= )", equations)
                 at = fn.asked[new]

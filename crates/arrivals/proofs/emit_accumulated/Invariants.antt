@@ -1,0 +1,40 @@
+-- What is left to make, from the state so far, is the whole; i is the first mark left.
+use Prim.Native.Nat.{ℕ, ◌<◌, ◌≤◌}
+use Rattle.arrivals.proofs.Groups.{group_end, group_turn}
+use Rattle.arrivals.proofs.Views.{Left}
+use Rattle.contexts.specs.Made.{accumulated_of, accumulation_of, groups_of}
+use Rattle.contexts.specs.Choice.{seq_candidates}
+use Rattle.contexts.specs.Steps.{Some}
+use Rattle.contexts.specs.Table.{Findings, row_of}
+use Rattle.detections.proofs.Writing.{beyond_none, beyond_then}
+use Rattle.detections.specs.Writing.{Beyond}
+use Rattle.emissions.specs.declared.Limit.TheVariants.{None}
+use Rattle.emissions.specs.Emissions.{Emits, Emitting, bytes_in, emitted, emitted_all, findings_in, reached}
+use Rattle.emissions.proofs.Emitting.{emits_as}
+use Rattle.emissions.proofs.Limits.{emitted_still, unreached}
+use Rattle.sequences.proofs.Loops.{fold_still}
+use Rattle.occurrences.specs.Packed.{Notes, Stands}
+use Rattle.occurrences.specs.declared.Occurrence.{Occurrence}
+use Rattle.sequences.specs.Loops.{fold}
+use Rattle.sequences.specs.Marks.{first_mark, marked}
+use Rattle.waiting_lists.proofs.Waits.{read-few, read_length}
+use Rattle.waiting_lists.specs.Lists.{Waits}
+use Rattle.waiting_lists.specs.Marks.{marks_of}
+use borrow.Author.Rules.{rules}
+use lib.ListN.{length}
+use mathlib.Core.List.{List, ◌∷◌, map}
+use mathlib.Core.Path.{◌∙◌, ◌≡◌, ap, refl, subst, sym}
+use native.Mathlib.Omega.{arith}
+use Rattle.arrivals.proofs.emit_accumulated.Given as goal
+
+abbrev pub invariant-loop-i : goal.invariant-loop-i
+invariant-loop-i v =
+    (v.i ≡ first_mark (marks_of v.rest)) × (length v.out ≡ length v.initial.out) × Beyond v.initial.out v.out (bytes_in v.initial.tally) (findings_in v.tally) (bytes_in v.tally)
+    × ((t : Notes v.ticks v.globals) (k l : List Occurrence) (s : Emitting) (x : Occurrence) → Waits t v.middles k → Waits t v.lefts l → Emits t None v.initial.tally v.initial.made v.initial.out s → Stands t v.o x
+    → marks_of v.earlier ≡ seq_candidates t.clocks k x
+    → Left t v.tally v.made v.out
+    (fold (emitted (length v.initial.out) v.loggers v.place) (map (λ g. accumulation_of t.clocks g k x) (groups_of (row_of v.context).finds (marked l (marks_of v.rest)))))
+    (emitted_all (length v.initial.out) v.loggers v.place s (accumulated_of (row_of v.context).finds t.clocks (marked l (marks_of v.taken)) k x)))
+
+abbrev pub decreases-loop-i : goal.decreases-loop-i
+decreases-loop-i l = l.rest
