@@ -98,6 +98,8 @@ class Function:
             self.parent[old] = parent
             if typed:
                 self.typed.add(old)
+        if "After-slice_known" in self.parent:  # a step of an older kit, which follows it
+            self.places.setdefault("after_all", "After-slice_known")
         self.params = {}
         for old, _, (step, new), callee, _ in made["places"]:
             if callee in made["params"]:
@@ -321,7 +323,7 @@ class Function:
     def chains(self, text):
         """Field chains without `.before`, steps by their new names."""
         text = re.sub(r"\.pre(?![\w-])", ".requires", text)
-        text = re.sub(r"(\.loop\d*)\.inv(?![\w-])", r"\1.invariant", text)
+        text = re.sub(r"\.inv(?![\w-])", r".invariant", text)
         text = re.sub(r"-test\.taken(?![\w-])", "-test.true", text)
 
         def one(m):
@@ -335,6 +337,7 @@ class Function:
             return f".{m[1]}.new.{names[k]}" if names and k < len(names) else m[0]
 
         text = re.sub(r"\.((?!\d)[^\s(){}\[\],;.:λ]+)\.new((?:\.1)*)\.0(?!\w)", last, text)
+        text = re.sub(r"(\.if[^\s(){}\[\],;.:λ]*)\.left\b", r"\1.false", text)
 
         def clause(m):
             names = self.callees.get(norm(m[1]), [])
@@ -419,7 +422,7 @@ def turn(folder, crate, path, made):
             continue
         elif n := re.search(r" : tie\.Need-(\S+)", body):
             old = n[1]
-            new = fn.needs.get(norm(re.sub(r"^(?:overflow|nonzero|bounds)-", "", old))) or fn.needs.get(norm(old))
+            new = fn.needs.get(norm(re.sub(r"^(?:overflow|nonzero|bounds)-", "", re.sub(r"^slice-bounds-", "part-", old)))) or fn.needs.get(norm(old))
             if not new:
                 gone.append((name, old))
                 ans.append("-- LEFT " + old + "\n" + "\n".join("-- " + x for x in block))

@@ -1,0 +1,37 @@
+-- Those before place i came to the node, and no limit was met.
+use Prim.Native.Nat.{ℕ, ◌+◌, ◌-◌, ◌<◌, ◌≤◌}
+use Rattle.arrivals.specs.Meetings.{Arrival, setting_of}
+use Rattle.detections.proofs.Writing.{beyond_none, beyond_then}
+use Rattle.detections.specs.Writing.{Beyond}
+use Rattle.emissions.proofs.Limits.{unreached}
+use Rattle.emissions.specs.Emissions.{bytes_in, findings_in, reached}
+use Rattle.emissions.specs.declared.Limit.TheVariants.{None}
+use Rattle.occurrences.proofs.Packed.{stand-at, stand-length}
+use Rattle.occurrences.specs.Packed.{Notes, Stand, Stands}
+use Rattle.occurrences.specs.declared.Occurrence.{Occurrence}
+use Rattle.operators.proofs.Sides.{held_of, holds_as}
+use Rattle.operators.proofs.Spares.{part_long, spare_on}
+use Rattle.operators.proofs.Turns.{first-few, in_order-at, in_order-length, no_arrival, turn_ends, turn_stops}
+use Rattle.operators.specs.Turns.{Turned, arrives, in_order}
+use Rattle.operators.specs.Views.{HoldsTurned, Takes, own_part}
+use Rattle.plans.specs.declared.Node.{Node}
+use Rattle.sequences.proofs.Loops.{fold-before, fold-none}
+use Rattle.sequences.specs.Loops.{fold}
+use Rattle.waiting_lists.proofs.Waits.{waits-length}
+use borrow.Author.Rules.{rules}
+use lib.ListN.{get_or, length, take}
+use mathlib.Core.List.{List, []}
+use mathlib.Core.Path.{◌∙◌, ◌≡◌, ap, refl, subst, sym}
+use native.Mathlib.Omega.{arith}
+use Rattle.operators.proofs.input_turn.Given as goal
+
+abbrev pub invariant-loop-i : goal.invariant-loop-i
+invariant-loop-i v =
+    (v.i ≤ v.n) × (length v.out ≡ length v.initial.out) × Beyond v.initial.out v.out (bytes_in v.initial.tally) (findings_in v.tally) (bytes_in v.tally) × (length v.lists ≡ length v.initial.lists)
+    × ((t : Notes v.ticks v.globals) (node : Node) (x : Turned) (l : List Occurrence) (event : ℕ) → Takes node v.turn → Stand t v.arrivals l
+    → HoldsTurned t None v.turn.split v.initial.lists v.initial.tally v.initial.made v.initial.out x
+    → HoldsTurned t None v.turn.split v.lists v.tally v.made v.out
+    (fold (arrives (setting_of (length v.initial.out) t.clocks v.loggers) node v.turn.place) (take v.i (in_order event v.turn.input 0 l)) x))
+
+abbrev pub decreases-loop-i : goal.decreases-loop-i
+decreases-loop-i l = l.n - l.i
