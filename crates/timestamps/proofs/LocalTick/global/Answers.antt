@@ -4,10 +4,6 @@ use mathlib.Core.Path.{refl}
 use borrow.Author.Rules.{rules}
 use Rattle.timestamps.proofs.LocalTick.global.Goals as goal
 
--- LEFT nonzero-div-t5
--- div-t5 : tie.Need-nonzero-div-t5
--- div-t5 c = search rules
-
 pub returns-then-ratio-eq0 : goal.returns-then-ratio-eq0
 returns-then-ratio-eq0 c = rw (c.if-ratio-eq0.true, div-zero c.args.self.0)
 

@@ -1,0 +1,24 @@
+-- The inputs before i are seated, whatever the other nodes are.
+use mathlib.Core.List.{List}
+use mathlib.Core.Path.{◌≡◌, ap, ◌∙◌}
+use Prim.Native.Nat.{◌≤◌, ◌<◌, ◌+◌, ◌-◌, ◌*◌}
+use native.Mathlib.Omega.{arith}
+use lib.ListN.{get_or, length, length-set}
+use Rattle.plans.specs.declared.Node.{Node}
+use Rattle.plans.specs.Limits.{no_node}
+use Rattle.plans.specs.Views.{node_of, slot_at}
+use Rattle.plans.proofs.Slots.{slot_same}
+use Rattle.slots.specs.Steps.{Filling}
+use Rattle.slots.proofs.Fillings.{filling_next, filling_turn}
+use Rattle.slots.proofs.Made.{node-input}
+use Rattle.slots.proofs.Takers.{one_shl}
+use borrow.Author.Rules.{rules}
+use Rattle.slots.proofs.seat_inputs.Given as goal
+
+abbrev pub invariant-loop-i : goal.invariant-loop-i
+invariant-loop-i v =
+    (v.i ≤ 3) × (length v.seats ≡ 187) × (length v.takers ≡ 50) × (v.l ≤ v.start + 17 * v.i)
+    × ((nodes : List Node) → get_or nodes v.k no_node ≡ node_of v.row → Filling v.places nodes v.k 0 v.initial.seats v.initial.takers v.start → Filling v.places nodes v.k v.i v.seats v.takers v.l)
+
+abbrev pub decreases-loop-i : goal.decreases-loop-i
+decreases-loop-i l = 3 - l.i

@@ -1,0 +1,14 @@
+-- The nodes before k have their context, and where what they make begins.
+use mathlib.Core.Path.{◌≡◌}
+use Prim.Native.Nat.{◌≤◌, ◌-◌}
+use native.Mathlib.Omega.{arith}
+use Rattle.slots.proofs.Made.{Making, first_nodes, making_all, making_most, making_start, making_turn, node_at, nodes-size}
+use Rattle.slots.proofs.Rooms.{made-room-fits}
+use borrow.Author.Rules.{rules}
+use Rattle.slots.proofs.seat_made.Given as goal
+
+abbrev pub invariant-loop-k : goal.invariant-loop-k
+invariant-loop-k l = (l.k ≤ l.n) × Making (first_nodes l.n l.nodes) l.takers l.initial.seats l.seats l.k l.m
+
+abbrev pub decreases-loop-k : goal.decreases-loop-k
+decreases-loop-k l = l.n - l.k
