@@ -17,10 +17,11 @@ use Rattle.open_calls.specs.Answers.{number_of, refusal, valid_length}
 use Rattle.open_calls.specs.Notes.{local_note, note_at}
 use Rattle.open_calls.specs.Steps.{join_verdict}
 use Rattle.comparisons.specs.declared.Comparison.{Comparison}
+use Rattle.comparisons.specs.declared.CompareStart.{CompareStart}
 use Rattle.comparisons.specs.declared.Gathering.{Gathering}
 use Rattle.comparisons.specs.Answers.{compare_answer, judged, judged_list, refused_comparison, related}
 use Rattle.comparisons.specs.Notes.{NotedList, gathering_of, no_lowest, no_notes, noted_down, span_of, widened_by}
-use Rattle.comparisons.specs.Steps.{after_first, compare_done, compare_run, compare_start, first_gathered, fold_gather, gather_step, gathered, place_after, stopped_at, wider}
+use Rattle.comparisons.specs.Steps.{after_first, compare_done, compare_run, compare_start, first_gathered, first_of, fold_gather, gather_step, gathered, place_after, second_start, stopped_at, wider}
 use Rattle.comparisons.proofs.Folds.{gather_next, gather_none, gathered-first, gathered-other, gathered-same}
 use Rattle.comparisons.proofs.Notes.{again-fits, again_in, first_clash, first_fits, noted_first, noted_none, noted_same, other_clash}
 use Rattle.comparisons.proofs.Relations.{relation_is}
@@ -291,3 +292,30 @@ compare_is ratio a b = ⊎_elim (λ r. ⊎_elim (walked r) (length-bad r) (eithe
     walked r n =
         ⊎_elim (first-refused ratio a b r n) (λ h. ⊎_elim (both_walked ratio a b r n h) (second_length ratio a b r n h) (either_way (valid_length (length b))))
         (either_way (refusal (fold_gather (clocks_of ratio) 0 nothing_gathered a).span.verdict))
+
+-- ---- call by call, as the code tells it
+module _ (ratio : ℕ) (a b : List Timestamp) (start : CompareStart) (e : start ≡ compare_start (join_verdict ratio (length a)) 0) where
+  pub stopped_first : start.stop ≡ true → start.answer ≡ compare_answer ratio a b
+  unfolding compare_run
+  stopped_first h = let k = sym (ap (λ (x : CompareStart). x.stop) e) ∙ h in rw (← compare_is ratio a b, k) (ap (λ (x : CompareStart). x.answer) e)
+
+  module _ (h : start.stop ≡ false) (f : Gathering) (middle : CompareStart) (walked : f ≡ fold_gather (clocks_of ratio) 0 (gathering_of start.span no_notes) a)
+      (m : middle ≡ after_first f (length a) (length b)) where
+    first_of-is : f ≡ first_of ratio a
+    first_of-is = walked ∙ ap (λ (x : CompareStart). fold_gather (clocks_of ratio) 0 (gathering_of x.span no_notes) a) e
+
+    second_start-is : middle ≡ second_start ratio a b
+    second_start-is = m ∙ ap (λ x. after_first x (length a) (length b)) first_of-is
+
+    pub stopped_second : middle.stop ≡ true → middle.answer ≡ compare_answer ratio a b
+    unfolding compare_run
+    stopped_second k =
+        let h' = sym (ap (λ (x : CompareStart). x.stop) e) ∙ h in let k' = sym (ap (λ (x : CompareStart). x.stop) second_start-is) ∙ k in
+        rw (← compare_is ratio a b, h', k') (ap (λ (x : CompareStart). x.answer) second_start-is)
+
+    pub walked_whole : middle.stop ≡ false → (g : Gathering) (r : Comparison) → g ≡ fold_gather (clocks_of ratio) 0 (gathering_of middle.span no_notes) b
+        → r ≡ compare_done ratio (length a) f g → r ≡ compare_answer ratio a b
+    unfolding compare_run
+    walked_whole k g r second done =
+        let h' = sym (ap (λ (x : CompareStart). x.stop) e) ∙ h in let k' = sym (ap (λ (x : CompareStart). x.stop) second_start-is) ∙ k in
+        rw (← compare_is ratio a b, h', k') (rw (second, second_start-is, first_of-is) at done)

@@ -1,5 +1,5 @@
 -- The fold over a list, entry by entry.
-use Rattle.std.proofs.Common.{◌≡◌, ℕ, suc, Bool, true, false, List, [], ◌∷◌, refl, eq-eqb, ne_eqb}
+use Rattle.std.proofs.Common.{◌≡◌, ℕ, suc, ◌+◌, ◌<◌, ◌≤◌, Bool, true, false, List, [], ◌∷◌, length, get_or, drop, sym, refl, ap, ◌∙◌, add-one, drop_of_length-le, drop-cons, eq-eqb, ne_eqb}
 use Rattle.timestamps.specs.declared.GlobalTick.{GlobalTick}
 use Rattle.timestamps.specs.declared.Timestamp.{Timestamp}
 use Rattle.timestamps.specs.Order.{Clocks, clearly_earlier, clocks_of, global_of, quotient}
@@ -18,6 +18,14 @@ pub gather_next : (clocks : Clocks) (i : ℕ) (a : Gathering) (s : Timestamp) (l
     → fold_gather clocks i a (s ∷ l) ≡ fold_gather clocks (suc i) (gather_step clocks a s i) l
 unfolding fold_gather
 gather_next clocks i a s l = refl
+
+-- ---- the loop over a list: what is left from the entry i on, from what is gathered so far, is the whole
+module _ (clocks : Clocks) (whole : Gathering) (l : List Timestamp) (i : ℕ) (a : Gathering) (left : fold_gather clocks i a (drop i l) ≡ whole) where
+  pub left_next : (d : Timestamp) (b : Gathering) → i < length l → b ≡ gather_step clocks a (get_or l i d) i → fold_gather clocks (i + 1) b (drop (i + 1) l) ≡ whole
+  left_next d b small e = rw (add-one, e) (sym (gather_next clocks i a (get_or l i d) (drop (suc i) l)) ∙ ap (fold_gather clocks i a) (sym (drop-cons l i d small)) ∙ left)
+
+  pub left_none : length l ≤ i → a ≡ whole
+  left_none big = sym (gather_none clocks i a) ∙ ap (fold_gather clocks i a) (sym (drop_of_length-le l big)) ∙ left
 
 -- ---- a valid entry, as the code tells it
 pub global_told : (ratio : ℕ) (s : Timestamp) (g : GlobalTick) → g ≡ quotient ratio s.tick → g ≡ global_of (clocks_of ratio) s

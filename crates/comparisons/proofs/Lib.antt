@@ -1,6 +1,5 @@
 pub mod Comparisons
 pub mod Folds
-pub mod GatherWalk
 pub mod Notes
 pub mod Relations
 pub mod Theorems

@@ -1,6 +1,6 @@
 -- How two lists stand to each other, by what is noted of them.
 use Rattle.std.proofs.Common.{◌≡◌, ℕ, ◌+◌, ◌-◌, ◌<◌, ◌≤◌, Bool, true, false, not, ◌&&◌, ◌||◌, eqb, ltb, List, [], ◌∷◌, sym, refl, ap, ◌∙◌, ⊎_elim, arith, le-ltb, lt-ltb, eq-eqb, ne_eqb, eqb-true}
-use mathlib.Core.Bool.{and_true, or-false, or-true}
+use mathlib.Core.Bool.{and-true, or-false, or-true}
 use native.Mathlib.Decide.{ℕ_discrete}
 use Rattle.sequences.specs.Choice.{pick}
 use Rattle.sequences.specs.Loops.{fold}
@@ -119,9 +119,9 @@ module _ (skip : ℕ → Bool) (m : ℕ → Around) where
   }
   unfolding fold each_passes
   fold-related [] r = λ i. record {
-    before = sym (and_true r.before) i;
-    concurrent = sym (and_true r.concurrent) i;
-    weakly_before = sym (and_true r.weakly_before) i;
+    before = sym (and-true r.before) i;
+    concurrent = sym (and-true r.concurrent) i;
+    weakly_before = sym (and-true r.weakly_before) i;
   }
   fold-related (k ∷ ks) r = fold-related ks (one_more (skip k) r (m k)) ∙ one_more_lem (skip k) r (m k) _ _ _
 

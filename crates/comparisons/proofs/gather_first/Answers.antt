@@ -1,0 +1,14 @@
+-- By the lowest and the highest global tick with this one.
+use Rattle.comparisons.proofs.Folds.{first_no, first_yes, global_told}
+use Rattle.comparisons.proofs.gather_first.Goals as goal
+
+pub returns-then-is_torn : goal.returns-then-is_torn
+returns-then-is_torn c = let t = c in let g = t in
+    rw c.judged_as.ensures
+    (first_no _ _ _ _ _ _ _ _ (global_told g.args.ratio _ _ g.global-g.ensures) t.widened-wider.ensures t.is_torn.ensures
+    c.if-is_torn.true)
+
+pub returns-else-is_torn : goal.returns-else-is_torn
+returns-else-is_torn c = let o = c in let w = o in let g = w in
+    first_yes _ _ _ _ _ _ _ _ (global_told g.args.ratio _ _ g.global-g.ensures) w.widened-wider.ensures o.is_torn.ensures _
+    o.if-is_torn.false c.note_down.ensures

@@ -1,0 +1,17 @@
+-- By its note, then the note of its logger, then the global ticks.
+use Rattle.std.proofs.Common.{sym, ◌∙◌, eq-eqb, ne_eqb}
+use Rattle.comparisons.specs.Notes.{has_earlier}
+use Rattle.comparisons.proofs.has_earlier.Goals as goal
+
+pub returns-then-note-eq0 : goal.returns-then-note-eq0
+unfolding has_earlier
+returns-then-note-eq0 c = rw (eq-eqb _ _ c.if-note-eq0.true)
+
+pub returns-then-is_earlier : goal.returns-then-is_earlier
+unfolding has_earlier
+returns-then-is_earlier c = let o = c in rw (ne_eqb _ _ o.if-note-eq0.false, sym o.is_earlier.ensures ∙ c.if-is_earlier.true)
+
+pub returns : goal.returns
+unfolding has_earlier
+returns c = let g = c in let o = g in
+    simp (ne_eqb _ _ o.if-note-eq0.false, sym o.is_earlier.ensures ∙ g.if-is_earlier.false, c.clearly_earlier.ensures, g.global-g.ensures)
