@@ -4,7 +4,6 @@ use native.Mathlib.Omega.{arith}
 use Rattle.event_sets.specs.Sets.{size_of}
 use Rattle.occurrences.specs.Packed.{from_words, words_of}
 use Rattle.event_sets.proofs.Members.{size-most}
-use borrow.Author.Rules.{rules}
 use Rattle.detections.proofs.event_count.Goals as goal
 
 pub returns : goal.returns

@@ -5,7 +5,6 @@ use lib.Dec.{leb}
 use borrow.Author.Tests.{le-leb}
 use Rattle.occurrences.specs.Packed.{occurrence_of}
 use Rattle.detections.proofs.Findings.{finding-most, finding-size}
-use borrow.Author.Rules.{rules}
 use Rattle.detections.proofs.fits.Goals as goal
 
 pub returns-then-left-ge342 : goal.returns-then-left-ge342

@@ -1,15 +1,12 @@
 -- The bits that are left, written from here, make all of them.
-use Prim.Native.Nat.{◌+◌, ◌^◌, ◌<◌}
+use Prim.Native.Nat.{◌+◌}
 use native.Mathlib.Omega.{arith}
 use lib.Count.{count_trailing_zeros, trailing_le}
 use Rattle.event_sets.proofs.Words.{rest_less}
 use Rattle.forms.specs.Bytes.{big_endian}
-use Rattle.forms.specs.Forms.{number, each}
-use Rattle.detections.specs.Steps.{bits_from}
 use Rattle.detections.proofs.Events.{bits_turn, bits_end}
 use Rattle.detections.proofs.Sizes.{length_two}
-use Rattle.detections.proofs.Writing.{Writes, writes_room, writes_turn, writes_end}
-use borrow.Author.Rules.{rules}
+use Rattle.detections.proofs.Writing.{writes_room, writes_turn, writes_end}
 use Rattle.detections.proofs.put_bits.Goals as goal
 
 pub overflow_cast-rest : goal.overflow_cast-rest

@@ -4,7 +4,6 @@ use Rattle.event_sets.specs.Sets.{elements}
 use Rattle.forms.specs.Forms.{number}
 use Rattle.forms.proofs.Forms.{number_laws}
 use Rattle.detections.proofs.Findings.{count_room, entries-counted, entries-room, section_done}
-use borrow.Author.Rules.{rules}
 use Rattle.detections.proofs.put_event_section.Goals as goal
 
 pub put_events-to-requires : goal.put_events-to-requires

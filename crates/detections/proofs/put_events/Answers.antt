@@ -2,7 +2,6 @@
 use native.Mathlib.Omega.{arith}
 use Rattle.detections.proofs.Events.{events_parts, low-room}
 use Rattle.detections.proofs.Writing.{writes_start, writes_turn}
-use borrow.Author.Rules.{rules}
 use Rattle.detections.proofs.put_events.Goals as goal
 
 pub put_bits-low-requires : goal.put_bits-low-requires

@@ -1,12 +1,8 @@
 -- The stamps that the bytes left name, written from here, make all of them.
 use Prim.Native.Nat.{◌^◌, ◌<◌}
-use native.Mathlib.Omega.{arith}
 use Rattle.occurrences.specs.Steps.{Inside}
-use Rattle.detections.specs.Steps.{named_bytes, stamp_bytes}
-use Rattle.detections.proofs.LowestByte.{lowest-fewer, lowest-inside, lowest_named, lowest-place, lowest-within}
-use Rattle.detections.proofs.Stamps.{named_turn, named_end}
-use Rattle.detections.proofs.Writing.{Writes, writes_start, writes_room, writes_turn, writes_end}
-use borrow.Author.Rules.{rules}
+use Rattle.detections.specs.Steps.{named_bytes}
+use Rattle.detections.proofs.Writing.{Writes}
 use Rattle.detections.proofs.put_named.Given as goal
 
 abbrev pub invariant-loop-rest : goal.invariant-loop-rest

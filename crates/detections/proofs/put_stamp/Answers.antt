@@ -5,7 +5,6 @@ use lib.ListN.{get_or, length}
 use Rattle.forms.specs.Bytes.{big_endian}
 use Rattle.detections.proofs.Sizes.{stamp_yes, stamp_no, length-stamp}
 use Rattle.detections.proofs.Writing.{wrote_none, wrote_then}
-use borrow.Author.Rules.{rules}
 use Rattle.detections.proofs.put_stamp.Goals as goal
 
 pub put_u16-a-requires : goal.put_u16-a-requires

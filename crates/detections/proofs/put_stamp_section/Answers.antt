@@ -4,7 +4,6 @@ use Rattle.detections.specs.Findings.{stamp}
 use Rattle.detections.specs.Views.{written_stamps}
 use Rattle.detections.proofs.Findings.{count_room, entries-counted, entries-room, section_done}
 use Rattle.detections.proofs.Sizes.{stamp_laws}
-use borrow.Author.Rules.{rules}
 use Rattle.detections.proofs.put_stamp_section.Goals as goal
 
 pub put_stamps-to-requires : goal.put_stamps-to-requires

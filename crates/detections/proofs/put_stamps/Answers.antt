@@ -1,6 +1,5 @@
 -- The bytes of its packed number name its stamps.
 use Rattle.detections.proofs.Stamps.{named_start}
-use borrow.Author.Rules.{rules}
 use Rattle.detections.proofs.put_stamps.Goals as goal
 
 pub put_named-requires : goal.put_named-requires

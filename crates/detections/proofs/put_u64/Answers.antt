@@ -2,7 +2,6 @@
 use native.Mathlib.Omega.{arith}
 use lib.ListN.{length-set}
 use Rattle.detections.proofs.Sizes.{wrote_number}
-use borrow.Author.Rules.{rules}
 use Rattle.detections.proofs.put_u64.Goals as goal
 
 pub bounds-out-at-2 : goal.bounds-out-at-2

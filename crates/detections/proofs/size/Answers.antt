@@ -1,7 +1,6 @@
 -- The counts make the size.
 use native.Mathlib.Omega.{arith}
 use Rattle.detections.proofs.Sizes.{length-finding}
-use borrow.Author.Rules.{rules}
 use Rattle.detections.proofs.size.Goals as goal
 
 pub returns : goal.returns

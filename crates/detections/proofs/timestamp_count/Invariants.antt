@@ -1,13 +1,11 @@
 -- The count so far and what is left from place k on make the whole.
 use mathlib.Core.Path.{◌≡◌}
 use Prim.Native.Nat.{◌+◌, ◌-◌, ◌≤◌}
-use native.Mathlib.Omega.{arith}
 use lib.ListN.{length}
 use Rattle.timestamps.specs.Composite.{members}
 use Rattle.occurrences.specs.Packed.{words_of}
 use Rattle.occurrences.proofs.Words.{latest_of}
-use Rattle.detections.proofs.Stamps.{count_from, count-start, count_turn, count_end}
-use borrow.Author.Rules.{rules}
+use Rattle.detections.proofs.Stamps.{count_from}
 use Rattle.detections.proofs.timestamp_count.Given as goal
 
 abbrev pub invariant-loop-k : goal.invariant-loop-k

@@ -4,7 +4,6 @@ use mathlib.Core.Bool.{false}
 use mathlib.Core.List.{[]}
 use Rattle.event_sets.specs.Sets.{elements}
 use Rattle.event_sets.proofs.Members.{elements-none}
-use borrow.Author.Rules.{rules}
 use Rattle.readings.proofs.not_found.Goals as goal
 
 pub returns : goal.returns

@@ -5,7 +5,6 @@ use lib.ListN.{take}
 use borrow.Author.Tests.{not-true, not-false}
 use Rattle.event_sets.specs.Sets.{elements}
 use Rattle.readings.proofs.Reading.{node-cut, bad-stamps, bad-events, whole-finding}
-use borrow.Author.Rules.{rules}
 use Rattle.readings.proofs.read.Goals as goal
 
 pub returns-then-left-lt2 : goal.returns-then-left-lt2

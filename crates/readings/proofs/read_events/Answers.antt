@@ -1,12 +1,8 @@
 -- `readings::read_events`: the count, and a loop: the events that are left, read from here after those marked, are all of them.
-use mathlib.Core.Path.{◌≡◌, ◌∙◌}
-use mathlib.Core.List.{[]}
-use Prim.Native.Nat.{◌-◌, ◌≤◌}
+use mathlib.Core.Path.{◌∙◌}
 use borrow.Author.Tests.{not-true, not-false}
-use Rattle.event_sets.specs.Sets.{elements}
-use Rattle.forms.specs.Sections.{entries}
 use Rattle.readings.specs.Reader.{event_section}
-use Rattle.readings.proofs.Reading.{Least, count_broken, count-begun, event-read, events-none, events_go, events_stop, events_done}
+use Rattle.readings.proofs.Reading.{count_broken, count-begun, event-read, events-none, events_go, events_stop, events_done}
 use borrow.Author.Rules.{rules}
 use Rattle.readings.proofs.read_events.Goals as goal
 

@@ -1,11 +1,10 @@
 -- `readings::read_stamps`: the count, and a loop: the stamps that are left, read from here after those held, are all of them.
-use mathlib.Core.Path.{◌≡◌, refl, ◌∙◌}
+use mathlib.Core.Path.{refl, ◌∙◌}
 use mathlib.Core.List.{[]}
-use Prim.Native.Nat.{◌+◌, ◌-◌, ◌≤◌, ◌<◌}
+use Prim.Native.Nat.{◌+◌, ◌≤◌, ◌<◌}
 use native.Mathlib.Omega.{arith}
-use lib.ListN.{length, take, length-set}
+use lib.ListN.{length, length-set}
 use borrow.Author.Tests.{not-true, not-false}
-use Rattle.forms.specs.Sections.{entries}
 use Rattle.forms.proofs.Sections.{turn_go, turn_stop, turn_end}
 use Rattle.readings.specs.Reader.{stamp_section}
 use Rattle.readings.specs.Steps.{no_stamp}

@@ -1,16 +1,10 @@
 -- `readings::read_stamps`: the count, and a loop: the stamps that are left, read from here after those held, are all of them.
-use mathlib.Core.Path.{◌≡◌, refl, ◌∙◌}
+use mathlib.Core.Path.{◌≡◌}
 use mathlib.Core.List.{[]}
-use Prim.Native.Nat.{◌+◌, ◌-◌, ◌≤◌, ◌<◌}
-use native.Mathlib.Omega.{arith}
-use lib.ListN.{length, take, length-set}
-use borrow.Author.Tests.{not-true, not-false}
+use Prim.Native.Nat.{◌-◌, ◌≤◌}
+use lib.ListN.{length, take}
 use Rattle.forms.specs.Sections.{entries}
-use Rattle.forms.proofs.Sections.{turn_go, turn_stop, turn_end}
 use Rattle.readings.specs.Reader.{stamp_section}
-use Rattle.readings.specs.Steps.{no_stamp}
-use Rattle.readings.proofs.Reading.{count_broken, count-begun, stamp-read, stamp-cut}
-use borrow.Author.Rules.{rules}
 use Rattle.readings.proofs.read_stamps.Given as goal
 
 abbrev pub invariant-loop-i : goal.invariant-loop-i

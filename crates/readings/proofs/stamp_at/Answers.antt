@@ -1,6 +1,5 @@
 -- `readings::stamp_at`: each field reads what the form has at its place.
 use Rattle.readings.proofs.Reading.{stamp-value}
-use borrow.Author.Rules.{rules}
 use Rattle.readings.proofs.stamp_at.Goals as goal
 
 pub returns : goal.returns

@@ -1,6 +1,5 @@
 -- Case by case.
 use Rattle.emissions.specs.Emissions.{number_of}
-use borrow.Author.Rules.{rules}
 use Rattle.emissions.proofs.Limit.number.Goals as goal
 
 pub returns-in-None : goal.returns-in-None
