@@ -98,6 +98,10 @@ class Function:
             self.parent[old] = parent
             if typed:
                 self.typed.add(old)
+        for old in list(self.parent):  # an older kit had one step more among a call's arguments
+            m = re.fullmatch(r"(After-\w+-arg)(\d*)", old)
+            if m and f"{m[1]}{int(m[2] or 1) + 1}" not in self.parent:
+                self.places.setdefault(norm(f"{m[1]}{int(m[2] or 1) + 1}"), old)
         if "After-slice_known" in self.parent:  # a step of an older kit, which follows it
             self.places.setdefault("after_all", "After-slice_known")
         self.params = {}
@@ -333,10 +337,10 @@ class Function:
 
         def last(m):
             names = self.params.get(norm(m[1]))
-            k = len(m[2]) // 2
-            return f".{m[1]}.new.{names[k]}" if names and k < len(names) else m[0]
+            k = len(m[3]) // 2
+            return f".{m[1]}.{m[2]}.{names[k]}" if names and k < len(names) else m[0]
 
-        text = re.sub(r"\.((?!\d)[^\s(){}\[\],;.:λ]+)\.new((?:\.1)*)\.0(?!\w)", last, text)
+        text = re.sub(r"\.((?!\d)[^\s(){}\[\],;.:λ]+)\.(new|auto)((?:\.1)*)\.0(?!\w)", last, text)
         text = re.sub(r"(\.if[^\s(){}\[\],;.:λ]*)\.left\b", r"\1.false", text)
 
         def clause(m):
