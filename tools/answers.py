@@ -86,7 +86,7 @@ class Function:
     def __init__(self, made, me):
         Function.LABELS = Function.LABELS or labels()
         self.own = self.LABELS.get(me, [])
-        self.handed = any(made["clauses"])
+        self.handed = any(made["clauses"]) or bool(self.own)
         self.callees = {norm(step): self.LABELS.get(callee, []) for _, _, (step, _), callee, _ in made["places"] if callee}
         self.needs = {norm(o): n for o, n in made["needs"]}
         self.loops = {norm(o[0]): (o[1], vars, changed) for (o, vars), changed in zip(made["loops"], made["changed"])}

@@ -1,0 +1,19 @@
+-- What is lent is enough where `fits` says so.
+use Rattle.detector.proofs.Running.{ready_in}
+use Rattle.gateway.proofs.Seats.{clear}
+use borrow.Author.Rules.{rules}
+use Rattle.gateway.proofs.run_middle.Goals as goal
+
+pub run_in-requires : goal.run_in-requires
+run_in-requires c =
+    let yes = c in
+    let s = yes in
+    let enough = yes.fits.ensures.0 yes.if-fits.true in
+    ((s.requires.2.0, s.requires.2.1, ready_in s.requires.2.2 85 40 enough.0 enough.1), clear 85, s.requires.3)
+
+pub returns-then-fits : goal.returns-then-fits
+returns-then-fits c =
+    let ran = c in
+    let yes = ran in
+    let enough = yes.fits.ensures.0 yes.if-fits.true in
+    λ p places same seated. ran.run_in.ensures p places same (ready_in seated 85 40 enough.0 enough.1)
