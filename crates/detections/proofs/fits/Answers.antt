@@ -17,9 +17,7 @@ timestamp_count-timestamps-requires c = c.requires
 
 pub returns : goal.returns
 returns c =
-    let events = c in
-    let timestamps = events in
-    let a = timestamps.args in
+    let a = c.args in
     λ loggers node.
     ap (λ n. leb n a.left)
-    (finding-size loggers node (occurrence_of a.ticks.now a.o.now) timestamps.timestamp_count-timestamps.ensures.0 (events.event_count-events.ensures.0 a.ticks.now) c.size.ensures)
+    (finding-size loggers node (occurrence_of a.ticks.now a.o.now) c.timestamp_count-timestamps.ensures.0 (c.event_count-events.ensures.0 a.ticks.now) c.size.ensures)

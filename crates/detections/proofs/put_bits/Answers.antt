@@ -14,30 +14,24 @@ overflow_cast-rest c = omega (arith, trailing_le 64 c.loop-rest.rest)
 
 pub overflow_add-first : goal.overflow_add-first
 overflow_add-first c =
-    let a = c in
-    omega (arith, trailing_le 64 a.loop-rest.rest, a.requires.0)
+    omega (arith, trailing_le 64 c.loop-rest.rest, c.requires.0)
 
 pub put_u16-to-requires : goal.put_u16-to-requires
 put_u16-to-requires c =
-    let a = c in
-    let first = a.args.first in
-    let rest = a.loop-rest.rest in
-    omega (arith, length_two (first + count_trailing_zeros 64 rest), writes_room a.loop-rest.invariant.1 (big_endian 2 (first + count_trailing_zeros 64 rest)) _ (bits_turn first rest c.loop-rest-test.true a.loop-rest.invariant.0))
+    let first = c.args.first in
+    let rest = c.loop-rest.rest in
+    omega (arith, length_two (first + count_trailing_zeros 64 rest), writes_room c.loop-rest.invariant.1 (big_endian 2 (first + count_trailing_zeros 64 rest)) _ (bits_turn first rest c.loop-rest-test.true c.loop-rest.invariant.0))
 
 pub loop-rest-smaller : goal.loop-rest-smaller
 loop-rest-smaller c =
-    let t = c in
-    rest_less t.loop-rest.rest t.loop-rest-test.true
+    rest_less c.loop-rest.rest c.loop-rest-test.true
 
 pub loop-rest-preserved : goal.loop-rest-preserved
 loop-rest-preserved c =
-    let t = c in
-    let a = t in
-    let first = a.args.first in
-    let rest = a.loop-rest.rest in
-    (omega (arith, rest_less rest t.loop-rest-test.true, a.loop-rest.invariant.0), writes_turn a.loop-rest.invariant.1 (bits_turn first rest t.loop-rest-test.true a.loop-rest.invariant.0) c.put_u16-to.ensures)
+    let first = c.args.first in
+    let rest = c.loop-rest.rest in
+    (omega (arith, rest_less rest c.loop-rest-test.true, c.loop-rest.invariant.0), writes_turn c.loop-rest.invariant.1 (bits_turn first rest c.loop-rest-test.true c.loop-rest.invariant.0) c.put_u16-to.ensures)
 
 pub returns : goal.returns
 returns c =
-    let a = c in
-    writes_end a.loop-rest.invariant.1 (bits_end a.args.first a.loop-rest.rest c.loop-rest-test.false)
+    writes_end c.loop-rest.invariant.1 (bits_end c.args.first c.loop-rest.rest c.loop-rest-test.false)

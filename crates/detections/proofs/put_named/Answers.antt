@@ -27,52 +27,40 @@ bounds-loggers-k c = omega (arith, lowest-place c.loop-rest.rest c.loop-rest-tes
 
 pub put_stamp-to-requires : goal.put_stamp-to-requires
 put_stamp-to-requires c =
-    let t = c in
-    let a = t in
-    let s = a in
-    let rest = a.loop-rest.rest in
-    let turn = named_turn s.args.ticks.now s.args.loggers.now s.requires.1 rest t.loop-rest-test.true a.loop-rest.invariant.0 in
-    (lowest_named rest t.loop-rest-test.true a.loop-rest.invariant.0 s.args.ticks.now a.loop-rest.invariant.1, writes_room a.loop-rest.invariant.2 (stamp_bytes _ _) _ turn)
+    let rest = c.loop-rest.rest in
+    let turn = named_turn c.args.ticks.now c.args.loggers.now c.requires.1 rest c.loop-rest-test.true c.loop-rest.invariant.0 in
+    (lowest_named rest c.loop-rest-test.true c.loop-rest.invariant.0 c.args.ticks.now c.loop-rest.invariant.1, writes_room c.loop-rest.invariant.2 (stamp_bytes _ _) _ turn)
 
 pub overflow_mul-rest : goal.overflow_mul-rest
 overflow_mul-rest c =
-    let t = c in
-    let l = t.loop-rest in
-    omega (arith, lowest-place l.rest t.loop-rest-test.true l.invariant.0)
+    let l = c.loop-rest in
+    omega (arith, lowest-place l.rest c.loop-rest-test.true l.invariant.0)
 
 pub overflow_shl-rest : goal.overflow_shl-rest
 overflow_shl-rest c =
-    let t = c in
-    let l = t.loop-rest in
-    omega (arith, lowest-place l.rest t.loop-rest-test.true l.invariant.0)
+    let l = c.loop-rest in
+    omega (arith, lowest-place l.rest c.loop-rest-test.true l.invariant.0)
 
 pub overflow_sub-rest : goal.overflow_sub-rest
 overflow_sub-rest c =
-    let t = c in
-    let l = t.loop-rest in
-    lowest-within l.rest t.loop-rest-test.true l.invariant.0
+    let l = c.loop-rest in
+    lowest-within l.rest c.loop-rest-test.true l.invariant.0
 
 pub loop-rest-smaller : goal.loop-rest-smaller
 loop-rest-smaller c =
-    let t = c in
-    let l = t.loop-rest in
-    lowest-fewer l.rest t.loop-rest-test.true l.invariant.0
+    let l = c.loop-rest in
+    lowest-fewer l.rest c.loop-rest-test.true l.invariant.0
 
 pub loop-rest-preserved : goal.loop-rest-preserved
 loop-rest-preserved c =
-    let t = c in
-    let a = t in
-    let s = a in
-    let rest = a.loop-rest.rest in
-    let p = t.loop-rest-test.true in
-    let h = a.loop-rest.invariant.0 in (
+    let rest = c.loop-rest.rest in
+    let p = c.loop-rest-test.true in
+    let h = c.loop-rest.invariant.0 in (
       omega (arith, lowest-fewer rest p h, h),
-      lowest-inside rest p h s.args.ticks.now a.loop-rest.invariant.1,
-      writes_turn a.loop-rest.invariant.2 (named_turn s.args.ticks.now s.args.loggers.now s.requires.1 rest p h) c.put_stamp-to.ensures,
+      lowest-inside rest p h c.args.ticks.now c.loop-rest.invariant.1,
+      writes_turn c.loop-rest.invariant.2 (named_turn c.args.ticks.now c.args.loggers.now c.requires.1 rest p h) c.put_stamp-to.ensures,
     )
 
 pub returns : goal.returns
 returns c =
-    let a = c in
-    let s = a in
-    writes_end a.loop-rest.invariant.2 (named_end s.args.ticks.now s.args.loggers.now s.requires.1 a.loop-rest.rest c.loop-rest-test.false)
+    writes_end c.loop-rest.invariant.2 (named_end c.args.ticks.now c.args.loggers.now c.requires.1 c.loop-rest.rest c.loop-rest-test.false)

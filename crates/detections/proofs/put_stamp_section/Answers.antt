@@ -8,23 +8,17 @@ use Rattle.detections.proofs.put_stamp_section.Goals as goal
 
 pub put_stamps-to-requires : goal.put_stamps-to-requires
 put_stamps-to-requires c =
-    let s = c in
-    let a = s.args in
-    (s.requires.0, s.requires.1, entries-room stamp stamp_laws (written_stamps a.ticks.now a.loggers.now a.o.now) a.out.now a.at s.requires.2)
+    let a = c.args in
+    (c.requires.0, c.requires.1, entries-room stamp stamp_laws (written_stamps a.ticks.now a.loggers.now a.o.now) a.out.now a.at c.requires.2)
 
 pub put_u16-requires : goal.put_u16-requires
 put_u16-requires c =
-    let put = c in
-    let s = put in
-    let a = s.args in
-    count_room stamp stamp_laws (written_stamps a.ticks.now a.loggers.now a.o.now) a.out.now a.at s.requires.2 put.put_stamps-to.ensures
+    let a = c.args in
+    count_room stamp stamp_laws (written_stamps a.ticks.now a.loggers.now a.o.now) a.out.now a.at c.requires.2 c.put_stamps-to.ensures
 
 pub returns : goal.returns
 returns c =
-    let count = c in
-    let put = count in
-    let s = put in
-    let a = s.args in
+    let a = c.args in
     let stamps = written_stamps a.ticks.now a.loggers.now a.o.now in
-    let counted = entries-counted stamp stamp_laws stamps a.out.now a.at s.requires.2 put.put_stamps-to.ensures in
-    section_done stamp stamp_laws stamps a.out.now a.at s.requires.2 put.put_stamps-to.ensures (omega (arith, counted)) count.put_u16.ensures
+    let counted = entries-counted stamp stamp_laws stamps a.out.now a.at c.requires.2 c.put_stamps-to.ensures in
+    section_done stamp stamp_laws stamps a.out.now a.at c.requires.2 c.put_stamps-to.ensures (omega (arith, counted)) c.put_u16.ensures

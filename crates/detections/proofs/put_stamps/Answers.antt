@@ -4,11 +4,8 @@ use Rattle.detections.proofs.put_stamps.Goals as goal
 
 pub put_named-requires : goal.put_named-requires
 put_named-requires c =
-    let s = c in
-    (s.requires.0, s.requires.1, rw (named_start s.args.ticks.now s.args.loggers.now s.args.o.now) s.requires.2)
+    (c.requires.0, c.requires.1, rw (named_start c.args.ticks.now c.args.loggers.now c.args.o.now) c.requires.2)
 
 pub returns : goal.returns
 returns c =
-    let put = c in
-    let s = put in
-    rw (named_start s.args.ticks.now s.args.loggers.now s.args.o.now) at put.put_named.ensures
+    rw (named_start c.args.ticks.now c.args.loggers.now c.args.o.now) at c.put_named.ensures

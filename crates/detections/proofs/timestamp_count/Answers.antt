@@ -13,13 +13,11 @@ word_at-requires c = (search rules, c.requires c.loop-k.k (search rules))
 
 pub loop-k-preserved : goal.loop-k-preserved
 loop-k-preserved c =
-    let a = c in
-    let s = a.args in
-    let turn = count_turn (words_of s.ticks.now s.o.now) a.loop-k.k _ (search rules) c.word_at.ensures in
-    (search rules, search rules, omega (arith, turn, c.one_if-n.ensures.0, a.loop-k.invariant.2))
+    let s = c.args in
+    let turn = count_turn (words_of s.ticks.now s.o.now) c.loop-k.k _ (search rules) c.word_at.ensures in
+    (search rules, search rules, omega (arith, turn, c.one_if-n.ensures.0, c.loop-k.invariant.2))
 
 pub returns : goal.returns
 returns c =
-    let a = c in
-    let s = a.args in
-    (omega (arith, count_end (words_of s.ticks.now s.o.now) a.loop-k.k (search rules), a.loop-k.invariant.2), search rules)
+    let s = c.args in
+    (omega (arith, count_end (words_of s.ticks.now s.o.now) c.loop-k.k (search rules), c.loop-k.invariant.2), search rules)

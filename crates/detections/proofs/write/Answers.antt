@@ -5,33 +5,21 @@ use Rattle.detections.proofs.write.Goals as goal
 
 pub put_u16-a-requires : goal.put_u16-a-requires
 put_u16-a-requires c =
-    let s = c in
-    node-room _ _ (occurrence_of s.args.ticks.now s.args.o.now) s.args.out.now _ s.requires.2
+    node-room _ _ (occurrence_of c.args.ticks.now c.args.o.now) c.args.out.now _ c.requires.2
 
 pub put_stamp_section-b-requires : goal.put_stamp_section-b-requires
 put_stamp_section-b-requires c =
-    let w₁ = c in
-    let s = w₁ in
-    (s.requires.0, s.requires.1, stamps-room _ _ (occurrence_of s.args.ticks.now s.args.o.now) _ _ s.requires.2 w₁.put_u16-a.ensures)
+    (c.requires.0, c.requires.1, stamps-room _ _ (occurrence_of c.args.ticks.now c.args.o.now) _ _ c.requires.2 c.put_u16-a.ensures)
 
 pub put_event_section-requires : goal.put_event_section-requires
 unfolding from_words words_of
 put_event_section-requires c =
-    let w₂ = c in
-    let w₁ = w₂ in
-    let numbers = w₁ in
-    let s = numbers in
-    let o = occurrence_of s.args.ticks.now s.args.o.now in
-    let stamps = w₂.put_stamp_section-b in
-    rw numbers.events_of-numbers.ensures (events-room _ _ o _ _ s.requires.2 w₁.put_u16-a.ensures {b = stamps.result} {l₂ = stamps.new.out} stamps.ensures)
+    let o = occurrence_of c.args.ticks.now c.args.o.now in
+    let stamps = c.put_stamp_section-b in
+    rw c.events_of-numbers.ensures (events-room _ _ o _ _ c.requires.2 c.put_u16-a.ensures {b = stamps.result} {l₂ = stamps.new.out} stamps.ensures)
 
 pub returns : goal.returns
 unfolding from_words words_of
 returns c =
-    let w₃ = c in
-    let w₂ = w₃ in
-    let w₁ = w₂ in
-    let numbers = w₁ in
-    let s = numbers in
-    let events = rw numbers.events_of-numbers.ensures at w₃.put_event_section.ensures in
-    all_done _ _ (occurrence_of s.args.ticks.now s.args.o.now) _ _ s.requires.2 w₁.put_u16-a.ensures w₂.put_stamp_section-b.ensures events
+    let events = rw c.events_of-numbers.ensures at c.put_event_section.ensures in
+    all_done _ _ (occurrence_of c.args.ticks.now c.args.o.now) _ _ c.requires.2 c.put_u16-a.ensures c.put_stamp_section-b.ensures events

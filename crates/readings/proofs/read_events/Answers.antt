@@ -20,29 +20,26 @@ loop-i-init c =
 pub returns-then-not-n : goal.returns-then-not-n
 returns-then-not-n c =
     let q = c.read_u16-n in
-    let s = c in
-    let r = s.read_u16-counted in
-    let a = s.args in
+    let r = c.read_u16-counted in
+    let a = c.args in
     let b = a.bytes.now in
-    events_stop b s.loop-i.events s.loop-i.least s.loop-i.at s.loop-i.invariant.1 q.result.whole q.result.value q.result.next q.ensures.0 r.result.value s.loop-i.i _ (search rules) s.loop-i.invariant.2 (not-true _ c.if-not-n.true) _
-    ∙ count-begun event_section b a.start r.result.whole r.result.value r.result.next r.ensures.0 (not-false _ s.if-not-counted.false)
+    events_stop b c.loop-i.events c.loop-i.least c.loop-i.at c.loop-i.invariant.1 q.result.whole q.result.value q.result.next q.ensures.0 r.result.value c.loop-i.i _ (search rules) c.loop-i.invariant.2 (not-true _ c.if-not-n.true) _
+    ∙ count-begun event_section b a.start r.result.whole r.result.value r.result.next r.ensures.0 (not-false _ c.if-not-counted.false)
 
 pub loop-i-preserved : goal.loop-i-preserved
 loop-i-preserved c =
     let q = c.read_u16-n in
-    let s = c in
-    let r = s.read_u16-counted in
-    let a = s.args in
+    let r = c.read_u16-counted in
+    let a = c.args in
     let b = a.bytes.now in
-    let N = event-read b s.loop-i.events s.loop-i.least s.loop-i.at s.loop-i.invariant.1 q.result.whole q.result.value q.result.next q.ensures.0 (not-false _ c.if-not-n.false) in
-    let g = events_go b r.result.value s.loop-i.i s.loop-i.events s.loop-i.at _ s.loop-i.invariant.2 c.marked-events.result _ _ (search rules) N c.marked-events.ensures in
+    let N = event-read b c.loop-i.events c.loop-i.least c.loop-i.at c.loop-i.invariant.1 q.result.whole q.result.value q.result.next q.ensures.0 (not-false _ c.if-not-n.false) in
+    let g = events_go b r.result.value c.loop-i.i c.loop-i.events c.loop-i.at _ c.loop-i.invariant.2 c.marked-events.result _ _ (search rules) N c.marked-events.ensures in
     (search rules, g.0, g.1)
 
 pub returns : goal.returns
 returns c =
-    let s = c in
-    let r = s.read_u16-counted in
-    let a = s.args in
+    let r = c.read_u16-counted in
+    let a = c.args in
     let b = a.bytes.now in
-    events_done b r.result.value s.loop-i.i s.loop-i.events s.loop-i.at _ s.loop-i.invariant.2 (search rules)
-    ∙ count-begun event_section b a.start r.result.whole r.result.value r.result.next r.ensures.0 (not-false _ s.if-not-counted.false)
+    events_done b r.result.value c.loop-i.i c.loop-i.events c.loop-i.at _ c.loop-i.invariant.2 (search rules)
+    ∙ count-begun event_section b a.start r.result.whole r.result.value r.result.next r.ensures.0 (not-false _ c.if-not-counted.false)

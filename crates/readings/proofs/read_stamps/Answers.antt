@@ -23,31 +23,28 @@ loop-i-init c = (search rules, refl, refl)
 
 pub returns-then-left-lt-STAMP_WIDTH : goal.returns-then-left-lt-STAMP_WIDTH
 returns-then-left-lt-STAMP_WIDTH c =
-    let s = c in
-    let r = s.read_u16-counted in
-    let a = s.args in
+    let r = c.read_u16-counted in
+    let a = c.args in
     let b = a.bytes.now in
-    turn_stop stamp_section b r.result.value s.loop-i.i s.loop-i.stamps s.loop-i.at _ s.loop-i.invariant.2 1 no_stamp s.loop-i.at (search rules) (stamp-cut b s.loop-i.at no_stamp (omega arith)) refl []
-    ∙ count-begun stamp_section b a.start r.result.whole r.result.value r.result.next r.ensures.0 (not-false _ s.if-not-counted.false)
+    turn_stop stamp_section b r.result.value c.loop-i.i c.loop-i.stamps c.loop-i.at _ c.loop-i.invariant.2 1 no_stamp c.loop-i.at (search rules) (stamp-cut b c.loop-i.at no_stamp (omega arith)) refl []
+    ∙ count-begun stamp_section b a.start r.result.whole r.result.value r.result.next r.ensures.0 (not-false _ c.if-not-counted.false)
 
 pub loop-i-preserved : goal.loop-i-preserved
 loop-i-preserved c =
-    let s = c in
-    let a = s.args in
+    let a = c.args in
     let b = a.bytes.now in
-    let r = s.read_u16-counted in
-    let h : s.loop-i.at + 10 ≤ length b = omega arith in
-    let j : s.loop-i.i < length s.loop-i.stamps = omega arith in (
+    let r = c.read_u16-counted in
+    let h : c.loop-i.at + 10 ≤ length b = omega arith in
+    let j : c.loop-i.i < length c.loop-i.stamps = omega arith in (
       search rules,
       simp length-set (omega arith),
-      turn_go stamp_section b r.result.value s.loop-i.i s.loop-i.stamps s.loop-i.at _ s.loop-i.invariant.2 0 c.stamp_at.result (s.loop-i.at + 10) (search rules) j (stamp-read b s.loop-i.at c.stamp_at.result h c.stamp_at.ensures) refl,
+      turn_go stamp_section b r.result.value c.loop-i.i c.loop-i.stamps c.loop-i.at _ c.loop-i.invariant.2 0 c.stamp_at.result (c.loop-i.at + 10) (search rules) j (stamp-read b c.loop-i.at c.stamp_at.result h c.stamp_at.ensures) refl,
     )
 
 pub returns : goal.returns
 returns c =
-    let s = c in
-    let r = s.read_u16-counted in
-    let a = s.args in
+    let r = c.read_u16-counted in
+    let a = c.args in
     let b = a.bytes.now in
-    turn_end stamp_section b r.result.value s.loop-i.i s.loop-i.stamps s.loop-i.at _ s.loop-i.invariant.2 (omega arith)
-    ∙ count-begun stamp_section b a.start r.result.whole r.result.value r.result.next r.ensures.0 (not-false _ s.if-not-counted.false)
+    turn_end stamp_section b r.result.value c.loop-i.i c.loop-i.stamps c.loop-i.at _ c.loop-i.invariant.2 (omega arith)
+    ∙ count-begun stamp_section b a.start r.result.whole r.result.value r.result.next r.ensures.0 (not-false _ c.if-not-counted.false)
