@@ -1,3 +1,5 @@
+#![tactic(auto)]
+
 // Runs append, remove and the four contexts, and prints what is made and what is left.
 ghost use Rattle.std.specs.Prelude.{List, [], ◌≡◌, ℕ, ◌≤◌, ◌<◌, get_or, length};
 ghost use Rattle.timestamps.specs.Order.{blank};
@@ -9,6 +11,7 @@ ghost use Rattle.waiting_lists.specs.Waiting.{appended_to};
 
 use event_sets::EventSet;
 use occurrences::Packed;
+use std::io;
 
 // A waiting list that has room for 16, in front of its places.
 type Row = [Packed; 17];
@@ -37,19 +40,19 @@ fn wait_four(list: &mut Row)
     add(list, 2, 4);
 }
 
-fn write(text: &[u8]) {
-    io::write_all(1, text);
+fn write(rt: &impl Print, text: &str) -> io::Result<()> {
+    print!(rt; "{text}")
 }
 
-fn write_number(n: usize) {
-    write(b" ");
-    io::print_decimal(1, n as u64);
+fn write_number(rt: &impl Print, n: usize) -> io::Result<()> {
+    print!(rt; " {n}")
 }
 
-fn write_element(set: EventSet, number: usize) {
+fn write_element(rt: &impl Print, set: EventSet, number: usize) -> io::Result<()> {
     if event_sets::holds(set, number) {
-        write_number(number);
+        write_number(rt, number)?;
     }
+    Ok(())
 }
 
 fn events_of(o: &Packed) -> EventSet {
@@ -59,14 +62,12 @@ fn events_of(o: &Packed) -> EventSet {
     }
 }
 
-fn write_events(o: &Packed) {
+fn write_events(rt: &impl Print, o: &Packed) -> io::Result<()> {
     let set = events_of(o);
-    let mut i: usize = 0;
-    while i < 128 {
-        write_element(set, i);
-        i = i + 1;
+    for i in 0..128 {
+        write_element(rt, set, i)?;
     }
-    write(b",");
+    write(rt, ",")
 }
 
 // How many wait.
@@ -77,43 +78,63 @@ fn waiting_in(list: &Row) -> usize
     waiting_lists::count(waiting.len)
 }
 
-fn write_waiting(list: &Row) {
+fn write_waiting(rt: &impl Print, list: &Row) -> io::Result<()> {
     let waiting = waiting_lists::list_of(list);
     let n = waiting_lists::count(waiting.len);
-    let mut i: usize = 0;
-    while i < n {
+    for i in 0..n {
         let place = waiting_lists::place_at(waiting, i);
-        write_events(&list[place]);
-        i = i + 1;
+        write_events(rt, &list[place])?;
     }
+    Ok(())
 }
 
-fn write_combined(mark: bool, w: &Packed, o: &Packed, ticks: &[u64], globals: &[u64])
+fn write_combined(
+    rt: &impl Print,
+    mark: bool,
+    w: &Packed,
+    o: &Packed,
+    ticks: &[u64],
+    globals: &[u64],
+) -> io::Result<()>
     requires { Within ticks.now globals.now w.now × Within ticks.now globals.now o.now }
 {
     if mark {
         let c = occurrences::combined(w, o, ticks, globals);
-        write_events(&c);
+        write_events(rt, &c)?;
     }
+    Ok(())
 }
 
 // One for each taken.
-fn write_each(list: &[Packed], taken: u64, o: &Packed, ticks: &[u64], globals: &[u64])
+fn write_each(
+    rt: &impl Print,
+    list: &[Packed],
+    taken: u64,
+    o: &Packed,
+    ticks: &[u64],
+    globals: &[u64],
+) -> io::Result<()>
     requires { Arrives ticks.now globals.now list.now o.now }
 {
     let waiting = waiting_lists::list_of(list);
     let n = waiting.len;
-    let mut i: usize = 0;
-    while i < n {
+    for i in 0..n {
         let mark = waiting_lists::is_marked(taken, i);
         let place = waiting_lists::place_at(waiting, i);
-        write_combined(mark, &list[place], o, ticks, globals);
-        i = i + 1;
+        write_combined(rt, mark, &list[place], o, ticks, globals)?;
     }
+    Ok(())
 }
 
 // One for all together, if any is taken.
-fn write_together(list: &[Packed], taken: u64, o: &Packed, ticks: &[u64], globals: &[u64])
+fn write_together(
+    rt: &impl Print,
+    list: &[Packed],
+    taken: u64,
+    o: &Packed,
+    ticks: &[u64],
+    globals: &[u64],
+) -> io::Result<()>
     requires { Arrives ticks.now globals.now list.now o.now }
 {
     let first = waiting_lists::first_marked(taken);
@@ -121,33 +142,50 @@ fn write_together(list: &[Packed], taken: u64, o: &Packed, ticks: &[u64], global
     let n = waiting.len;
     if first < n {
         let all = contexts::all_combined(list, taken, o, ticks, globals);
-        write_events(&all);
+        write_events(rt, &all)?;
     }
+    Ok(())
 }
 
-fn write_made(context: u64, list: &[Packed], taken: u64, o: &Packed, ticks: &[u64], globals: &[u64])
+fn write_made(
+    rt: &impl Print,
+    context: u64,
+    list: &[Packed],
+    taken: u64,
+    o: &Packed,
+    ticks: &[u64],
+    globals: &[u64],
+) -> io::Result<()>
     requires { Arrives ticks.now globals.now list.now o.now }
 {
     if contexts::makes_each(context) {
-        write_each(list, taken, o, ticks, globals);
+        write_each(rt, list, taken, o, ticks, globals)
     } else {
-        write_together(list, taken, o, ticks, globals);
+        write_together(rt, list, taken, o, ticks, globals)
     }
 }
 
 // What an arrival makes and leaves, by the candidates that are marked.
-fn work(context: u64, list: &mut Row, candidates: u64, o: &Packed, ticks: &[u64], globals: &[u64])
+fn work(
+    rt: &impl Print,
+    context: u64,
+    list: &mut Row,
+    candidates: u64,
+    o: &Packed,
+    ticks: &[u64],
+    globals: &[u64],
+) -> io::Result<()>
     requires { Arrives ticks.now globals.now list.old o.now }
 {
     let c = contexts::choose(context, list, candidates, ticks, globals);
     let taken = c.taken;
     let removed = c.removed;
-    write(b" makes");
-    write_made(context, list, taken, o, ticks, globals);
+    write(rt, " makes")?;
+    write_made(rt, context, list, taken, o, ticks, globals)?;
     waiting_lists::remove_from(list, removed);
-    write(b" leaves");
-    write_waiting(list);
-    write(b"\n");
+    write(rt, " leaves")?;
+    write_waiting(rt, list)?;
+    write(rt, "\n")
 }
 
 // SEQ's candidates, of those that wait in a row.
@@ -159,7 +197,7 @@ fn before(list: &Row, o: &Packed, ticks: &[u64], globals: &[u64]) -> u64
 
 // By number plus one the local and the global ticks, each plus one: logger 1 at 80 and 95, logger 2 at 120, logger 3 at 100, logger 2 at 300; ten in a
 // global tick.
-fn seq(context: u64, name: &[u8]) {
+fn seq(rt: &impl Print, context: u64, name: &str) -> io::Result<()> {
     let nothing = [0u64; 3];
     let mut list = [nothing; 17];
     let ticks = [0u64, 81, 96, 121, 101, 301];
@@ -167,12 +205,12 @@ fn seq(context: u64, name: &[u8]) {
     wait_four(&mut list);
     let o = occurrences::of_event(2, 2);
     let candidates = before(&list, &o, &ticks, &globals);
-    write(b"SEQ ");
-    write(name);
-    work(context, &mut list, candidates, &o, &ticks, &globals);
+    write(rt, "SEQ ")?;
+    write(rt, name)?;
+    work(rt, context, &mut list, candidates, &o, &ticks, &globals)
 }
 
-fn and(context: u64, name: &[u8]) {
+fn and(rt: &impl Print, context: u64, name: &str) -> io::Result<()> {
     let nothing = [0u64; 3];
     let mut list = [nothing; 17];
     let ticks = [0u64, 81, 96, 121, 101, 301];
@@ -180,21 +218,22 @@ fn and(context: u64, name: &[u8]) {
     wait_four(&mut list);
     let o = occurrences::of_event(2, 2);
     let candidates = contexts::all_waiting(waiting_in(&list));
-    write(b"AND ");
-    write(name);
-    work(context, &mut list, candidates, &o, &ticks, &globals);
+    write(rt, "AND ")?;
+    write(rt, name)?;
+    work(rt, context, &mut list, candidates, &o, &ticks, &globals)
 }
 
 // One more, and a line where the list is full.
-fn one_more(list: &mut Row, number: usize)
+fn one_more(rt: &impl Print, list: &mut Row, number: usize) -> io::Result<()>
     requires { number < 128 }
 {
     if waiting_in(list) == 16 {
-        write(b"full at");
-        write_number(number);
-        write(b"\n");
+        write(rt, "full at")?;
+        write_number(rt, number)?;
+        write(rt, "\n")?;
     }
     add(list, 1, number);
+    Ok(())
 }
 
 // The first and the fifteenth leave.
@@ -205,29 +244,27 @@ fn two_leave(list: &mut Row) {
 }
 
 // Sixteen wait and no more; two leave, and a freed place is used again.
-fn fill() {
+fn fill(rt: &impl Print) -> io::Result<()> {
     let nothing = [0u64; 3];
     let mut list = [nothing; 17];
-    let mut i: usize = 0;
-    while i < 18 {
-        one_more(&mut list, i);
-        i = i + 1;
+    for i in 0..18 {
+        one_more(rt, &mut list, i)?;
     }
     two_leave(&mut list);
-    write(b"waiting");
-    one_more(&mut list, 100);
-    write_waiting(&list);
-    write(b"\n");
+    write(rt, "waiting")?;
+    one_more(rt, &mut list, 100)?;
+    write_waiting(rt, &list)?;
+    write(rt, "\n")
 }
 
-fn main() {
-    seq(1, b"recent");
-    seq(2, b"chronicle");
-    seq(3, b"continuous");
-    seq(4, b"cumulative");
-    and(1, b"recent");
-    and(2, b"chronicle");
-    and(3, b"continuous");
-    and(4, b"cumulative");
-    fill();
+fn main(rt: HostRuntime) -> io::Result<()> {
+    seq(&rt, 1, "recent")?;
+    seq(&rt, 2, "chronicle")?;
+    seq(&rt, 3, "continuous")?;
+    seq(&rt, 4, "cumulative")?;
+    and(&rt, 1, "recent")?;
+    and(&rt, 2, "chronicle")?;
+    and(&rt, 3, "continuous")?;
+    and(&rt, 4, "cumulative")?;
+    fill(&rt)
 }

@@ -1,7 +1,8 @@
+#![tactic(auto)]
+
 // Works a passage under a plan, both from their files, and prints a line for each finding and one for the answer, in document
 // 01's form. Of a file that cannot be read it says so on standard error, and prints nothing.
 ghost use Rattle.std.specs.Prelude.{◌+◌, ◌-◌, ◌≤◌, ◌<◌, length, take, true, ◌≡◌};
-ghost use Rattle.io.specs.Counts.{IsPrefixLen};
 ghost use Rattle.detections.specs.Writing.{Wrote};
 ghost use Rattle.readings.specs.Views.{answer_of};
 ghost use Rattle.event_sets.specs.Sets.{elements};
@@ -10,8 +11,11 @@ ghost use Rattle.listing.specs.Pages.{Fills};
 
 use detections::Stamp;
 use event_sets::EventSet;
-use libc::{STDERR_FILENO, STDOUT_FILENO};
 use readings::FindingRead;
+use std::env::FillError;
+use std::io::{Read, Write};
+use std::rt::{Env, Files};
+use std::{fs, io, str};
 use working::Answer;
 
 // How many bytes of a file were read, or that reading failed.
@@ -40,7 +44,9 @@ fn put_text(page: &mut [u8], at: usize, text: &[u8]) -> usize
     requires { at + length text.now ≤ length page.old }
     ensures { Wrote page.old at text.now result page.new }
 {
-    at + bytes::copy(text, &mut page[at..])
+    let end = at + text.len();
+    page[at..end].copy_from_slice(text);
+    end
 }
 
 // A mark and the number in decimal.
@@ -48,10 +54,9 @@ fn put_number(page: &mut [u8], at: usize, separator: u8, n: u64) -> usize
     requires { at + 21 ≤ length page.old }
     ensures { Wrote page.old at (number_text separator n) result page.new × (at < result) × (result ≤ at + 21) }
 {
-    let mut digits = [0u8; 20];
-    let count = io::decimal(n, &mut digits);
+    let mut digits = itoa::Buffer::new();
     page[at] = separator;
-    put_text(page, at + 1, &digits[..count])
+    put_text(page, at + 1, digits.format(n).as_bytes())
 }
 
 // A mark and the stamp, as 2:110.
@@ -155,50 +160,69 @@ fn fill(page: &mut [u8], output: &[u8], from: usize, count: u64) -> Filled
 }
 
 // Writes the page's first bytes, or says why not.
-fn write_page(page: &[u8], len: usize) -> bool
+fn write_page(rt: &(impl Print + Eprint), page: &[u8], len: usize) -> bool
     requires { len ≤ length page.now }
 {
-    if !io::write_all(STDOUT_FILENO, &page[..len]) {
-        os::fail(b"standard output");
-        return false;
+    match rt.write_all(&page[..len]) {
+        Ok(()) => true,
+        Err(error) => {
+            fail(rt, "standard output", error);
+            false
+        }
     }
-    true
 }
 
 // Prints a page at a time; the last one ends with the answer.
-fn print(output: &[u8], answer: Answer) {
+fn print(rt: &(impl Print + Eprint), output: &[u8], answer: Answer) {
     let mut page = [0u8; 16384];
     let mut filled = fill(&mut page, output, 0, answer.findings);
     while filled.left > 0 {
-        if !write_page(&page, filled.len) {
+        if !write_page(rt, &page, filled.len) {
             return;
         }
         filled = fill(&mut page, output, filled.next, filled.left);
     }
     let len = put_end(&mut page, filled.len, answer);
-    write_page(&page, len);
+    write_page(rt, &page, len);
 }
 
 // ---- files
 
+// The system's numbers of an argument that is missing, longer than a path may be, or no text.
+const MISSING: i32 = 22;
+
+const TOO_LONG: i32 = 36;
+
+const NO_TEXT: i32 = 84;
+
+// Says on standard error what failed, and the system's words for why, without its number.
+fn fail(rt: &impl Eprint, what: &str, error: io::Error) {
+    let mut text = io::Cursor::new([0u8; 128]);
+    let _ = write!(text, "{error}");
+    let length = text.position().min(128) as usize;
+    let bytes = text.into_inner();
+    let whole = str::from_utf8(&bytes[..length]).unwrap_or("");
+    let words = whole.split(" (os error ").next().unwrap_or("");
+    let _ = eprintln!(rt; "{what}: {words}");
+}
+
 // Reads until the file ends or buf is full. A read that fails is no end.
-fn read_file(fd: i32, buf: &mut [u8]) -> FileRead
-    ensures { IsPrefixLen result.count buf.new }
+fn read_file(rt: &impl Eprint, name: &str, file: &mut impl Read, buf: &mut [u8]) -> FileRead
+    ensures { (result.count ≤ length buf.new) × (result.count ≡ length (take result.count buf.new)) }
 {
     let mut count: usize = 0;
     while count < buf.len() {
-        let got = libc::read(fd, &mut buf[count..]);
-        if got < 0 {
-            return FileRead {
-                failed: true,
-                count,
-            };
+        match file.read(&mut buf[count..]) {
+            Ok(0) => break,
+            Ok(more) => count += more,
+            Err(error) => {
+                fail(rt, name, error);
+                return FileRead {
+                    failed: true,
+                    count,
+                };
+            }
         }
-        let more = io::count(got, &buf[count..]);
-        if more == 0 {
-            break;
-        }
-        count += more;
     }
     FileRead {
         failed: false,
@@ -216,42 +240,54 @@ fn unread() -> FileRead
 }
 
 // Reads the file that argument i names, or says why not.
-fn read_argument(i: usize, buf: &mut [u8]) -> FileRead
-    ensures { IsPrefixLen result.count buf.new }
+fn read_argument(rt: &(impl Env + Files + Eprint), i: usize, buf: &mut [u8]) -> FileRead
+    ensures { (result.count ≤ length buf.new) × (result.count ≡ length (take result.count buf.new)) }
 {
-    let mut path = io::buffer();
-    let length = os::arg(i, &mut path);
-    if os::errno() != 0 {
-        os::fail(b"argument");
+    let mut path = [0u8; 4096];
+    let length = match rt.arg(i, &mut path) {
+        Ok(length) => length,
+        Err(FillError::NotPresent) => {
+            fail(rt, "argument", io::Error::from_raw_os_error(MISSING));
+            return unread();
+        }
+        Err(FillError::TooLong) => {
+            fail(rt, "argument", io::Error::from_raw_os_error(TOO_LONG));
+            return unread();
+        }
+    };
+    let Ok(name) = str::from_utf8(&path[..length]) else {
+        fail(rt, "argument", io::Error::from_raw_os_error(NO_TEXT));
         return unread();
+    };
+    match fs::open(rt, name) {
+        Ok(mut file) => read_file(rt, name, &mut file, buf),
+        Err(error) => {
+            fail(rt, name, error);
+            unread()
+        }
     }
-    let fd = os::open_read(&path[..length]);
-    if fd < 0 {
-        os::fail(&path[..length]);
-        return unread();
-    }
-    let file = read_file(fd, buf);
-    if file.failed {
-        os::fail(&path[..length]);
-    }
-    libc::close(fd);
-    file
+}
+
+// Whether the program was started with an argument of that number; its own name is argument 0.
+fn is_given(rt: &impl Env, i: usize) -> bool {
+    let mut none = [0u8; 1];
+    !matches!(rt.arg(i, &mut none), Err(FillError::NotPresent))
 }
 
 // Both files are read before anything is printed. A plan within the limits has at most 220 bytes and a passage at most 1,538, and
 // the checks end at the first byte too many: what a longer file has after the bytes read here changes no answer.
-fn main() {
-    if os::arg_count() != 3 {
-        io::write_all(STDERR_FILENO, b"usage: listing PLAN PASSAGE\n");
+fn main(rt: HostRuntime) {
+    if !is_given(&rt, 2) || is_given(&rt, 3) {
+        let _ = eprintln!(rt; "usage: listing PLAN PASSAGE");
         return;
     }
     let mut plan = [0u8; 256];
-    let plan_file = read_argument(1, &mut plan);
+    let plan_file = read_argument(&rt, 1, &mut plan);
     if plan_file.failed {
         return;
     }
     let mut passage = [0u8; 2048];
-    let passage_file = read_argument(2, &mut passage);
+    let passage_file = read_argument(&rt, 2, &mut passage);
     if passage_file.failed {
         return;
     }
@@ -259,5 +295,5 @@ fn main() {
     let passage_count = passage_file.count;
     let mut output = [0u8; 32768];
     let answer = gateway::work(&plan[..plan_count], &passage[..passage_count], &mut output);
-    print(&output, answer);
+    print(&rt, &output, answer);
 }
