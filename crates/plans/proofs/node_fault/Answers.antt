@@ -1,13 +1,9 @@
 -- `plans::node_fault`: the tests go in the order of `node_fault`.
 use mathlib.Core.Path.{◌≡◌, sym, ◌∙◌}
 use mathlib.Core.Bool.{true, false}
-use Prim.Native.Nat.{ℕ}
-use borrow.Author.Tests.{not-true, not-false}
 use Rattle.forms.specs.Sections.{within}
-use Rattle.plans.specs.Reader.{is_input, is_third}
-use Rattle.plans.specs.Views.{RowOf}
+use Rattle.plans.specs.Reader.{is_third}
 use Rattle.plans.proofs.Slots.{slot-allowed, slot-refused}
-use borrow.Author.Rules.{rules}
 use Rattle.plans.proofs.node_fault.Goals as goal
 
 pub returns-then-not-is_within : goal.returns-then-not-is_within
