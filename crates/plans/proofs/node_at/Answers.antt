@@ -3,7 +3,6 @@ use mathlib.Core.Path.{subst, sym}
 use native.Mathlib.Omega.{arith}
 use Rattle.plans.specs.Layout.{node}
 use Rattle.plans.proofs.Sections.{node_laws, node-value}
-use borrow.Author.Rules.{rules}
 use Rattle.plans.proofs.node_at.Goals as goal
 
 pub returns : goal.returns

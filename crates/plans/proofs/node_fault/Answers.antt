@@ -1,13 +1,9 @@
 -- `plans::node_fault`: the tests go in the order of `node_fault`.
 use mathlib.Core.Path.{◌≡◌, sym, ◌∙◌}
 use mathlib.Core.Bool.{true, false}
-use Prim.Native.Nat.{ℕ}
-use borrow.Author.Tests.{not-true, not-false}
 use Rattle.forms.specs.Sections.{within}
 use Rattle.plans.specs.Reader.{is_input, is_third}
-use Rattle.plans.specs.Views.{RowOf}
 use Rattle.plans.proofs.Slots.{slot-allowed, slot-refused}
-use borrow.Author.Rules.{rules}
 use Rattle.plans.proofs.node_fault.Goals as goal
 
 pub returns-then-not-is_within : goal.returns-then-not-is_within
@@ -29,22 +25,29 @@ returns-then-row-eq-NO_SLOT c =
 
 pub returns-then-row-eq-NO_SLOT-2 : goal.returns-then-row-eq-NO_SLOT-2
 returns-then-row-eq-NO_SLOT-2 c =
+    λ kinds place r.
+    let left : is_input kinds place c.args.node.left ≡ true = slot-allowed kinds place _ _ r.left c.if-row-eq-NO_SLOT.false in
+    let middle : is_input kinds place c.args.node.middle ≡ false = slot-refused kinds place _ _ r.middle c.if-row-eq-NO_SLOT-2.true in
     let operator : within 1 6 c.args.node.operator ≡ true = sym c.is_within.ensures ∙ c.if-not-is_within.false in
     let context : within 1 4 c.args.node.context ≡ true = sym c.is_within-2.ensures ∙ c.if-not-is_within-2.false in
-    λ kinds place r. rw (operator, context, slot-allowed kinds place _ _ r.left c.if-row-eq-NO_SLOT.false, slot-refused kinds place _ _ r.middle c.if-row-eq-NO_SLOT-2.true)
+    rw (operator, context, left, middle)
 
 pub returns-then-not-is_third : goal.returns-then-not-is_third
 returns-then-not-is_third c =
+    λ kinds place r.
+    let left : is_input kinds place c.args.node.left ≡ true = slot-allowed kinds place _ _ r.left c.if-row-eq-NO_SLOT.false in
+    let middle : is_input kinds place c.args.node.middle ≡ true = slot-allowed kinds place _ _ r.middle c.if-row-eq-NO_SLOT-2.false in
+    let third : is_third kinds place c.args.node ≡ false = sym (c.is_third.ensures kinds place r.third) ∙ c.if-not-is_third.true in
     let operator : within 1 6 c.args.node.operator ≡ true = sym c.is_within.ensures ∙ c.if-not-is_within.false in
     let context : within 1 4 c.args.node.context ≡ true = sym c.is_within-2.ensures ∙ c.if-not-is_within-2.false in
-    λ kinds place r.
-    let third : is_third kinds place c.args.node ≡ false = sym (c.is_third.ensures kinds place r.third) ∙ c.if-not-is_third.true in
-    rw (operator, context, slot-allowed kinds place _ _ r.left c.if-row-eq-NO_SLOT.false, slot-allowed kinds place _ _ r.middle c.if-row-eq-NO_SLOT-2.false, third)
+    rw (operator, context, left, middle, third)
 
 pub returns : goal.returns
 returns c =
+    λ kinds place r.
+    let left : is_input kinds place c.args.node.left ≡ true = slot-allowed kinds place _ _ r.left c.if-row-eq-NO_SLOT.false in
+    let middle : is_input kinds place c.args.node.middle ≡ true = slot-allowed kinds place _ _ r.middle c.if-row-eq-NO_SLOT-2.false in
+    let third : is_third kinds place c.args.node ≡ true = sym (c.is_third.ensures kinds place r.third) ∙ c.if-not-is_third.false in
     let operator : within 1 6 c.args.node.operator ≡ true = sym c.is_within.ensures ∙ c.if-not-is_within.false in
     let context : within 1 4 c.args.node.context ≡ true = sym c.is_within-2.ensures ∙ c.if-not-is_within-2.false in
-    λ kinds place r.
-    let third : is_third kinds place c.args.node ≡ true = sym (c.is_third.ensures kinds place r.third) ∙ c.if-not-is_third.false in
-    rw (operator, context, slot-allowed kinds place _ _ r.left c.if-row-eq-NO_SLOT.false, slot-allowed kinds place _ _ r.middle c.if-row-eq-NO_SLOT-2.false, third)
+    rw (operator, context, left, middle, third)

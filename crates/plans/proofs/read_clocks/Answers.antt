@@ -1,10 +1,8 @@
 -- `plans::read_clocks`: the count must be 1, and one entry.
 use mathlib.Core.Path.{refl, sym, ◌∙◌}
 use native.Mathlib.Omega.{arith}
-use borrow.Author.Tests.{not-true, not-false}
 use Rattle.forms.proofs.Sections.{count_stop, count_one}
 use Rattle.plans.specs.Reader.{clocks}
-use borrow.Author.Rules.{rules}
 use Rattle.plans.proofs.read_clocks.Goals as goal
 
 pub returns-then-not-is_none : goal.returns-then-not-is_none

@@ -2,14 +2,13 @@
 use mathlib.Core.Path.{◌≡◌, refl, sym, ap, ◌∙◌}
 use native.Mathlib.Omega.{arith}
 use lib.Dec.{eqb}
-use borrow.Author.Tests.{eqb-false, eqb-true, not-true, not-false}
+use borrow.Author.Tests.{eqb-false, eqb-true}
 use Rattle.forms.specs.Views.{seen}
 use Rattle.forms.proofs.Pieces.{piece_short, bad-seen, seen_right, seen_wrong}
 use Rattle.plans.specs.Faults.{number_of}
 use Rattle.plans.specs.Layout.{node}
 use Rattle.plans.specs.Reader.{node_fault}
 use Rattle.plans.proofs.Slots.{row_below, row_gives}
-use borrow.Author.Rules.{rules}
 use Rattle.plans.proofs.read_node.Goals as goal
 
 pub returns-then-left-lt-WIDTH : goal.returns-then-left-lt-WIDTH

@@ -1,18 +1,18 @@
 -- `plans::read_nodes`: the count, and a loop. The invariant: the nodes that are left, read from here after those that are held,
 -- give the section.
 use mathlib.Core.Path.{◌≡◌, refl, sym, ap, ◌∙◌}
-use Prim.Native.Nat.{ℕ, ◌+◌, ◌-◌, ◌≤◌}
+use Prim.Native.Nat.{ℕ, ◌+◌, ◌-◌}
 use mathlib.Core.List.{List, [], map}
 use native.Mathlib.Omega.{arith}
 use lib.ListN.{length, length-map, length-set, set, take}
 use lib.Seq.{length-take-le}
-use borrow.Author.Tests.{eqb-true, not-true, not-false}
+use borrow.Author.Tests.{eqb-true}
 use Rattle.sequences.proofs.Arrays.{map_set}
-use Rattle.forms.specs.Sections.{entries, section}
+use Rattle.forms.specs.Sections.{entries}
 use Rattle.forms.proofs.Sections.{count_stop, count_go, turn_go, turn_stop, turn_end}
 use Rattle.plans.specs.Faults.{number_of}
 use Rattle.plans.specs.Reader.{nodes}
-use Rattle.plans.specs.Views.{Slotted, node_of}
+use Rattle.plans.specs.Views.{node_of}
 use Rattle.plans.specs.declared.Node.{Node}
 use Rattle.plans.proofs.Sections.{node-piece}
 use Rattle.plans.proofs.Slots.{slotted-more, slotted-none}

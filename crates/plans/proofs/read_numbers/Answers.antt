@@ -1,17 +1,15 @@
 -- `plans::read_numbers`: the count, and a loop. The invariant: the numbers that are left, read from here after those that are
 -- held, are what the loop began to read; and a number is above those held from `least` on.
-use mathlib.Core.Path.{◌≡◌, refl, sym, ◌∙◌}
-use Prim.Native.Nat.{ℕ, ◌-◌, ◌≤◌, ◌<◌}
+use mathlib.Core.Path.{refl, sym, ◌∙◌}
+use Prim.Native.Nat.{◌<◌}
 use mathlib.Core.List.{[]}
 use native.Mathlib.Omega.{arith}
 use lib.ListN.{length, take, length-set}
 use lib.Seq.{length-take-le}
-use lib.Dec.{leb, leb-zero}
-use borrow.Author.Tests.{not-true, not-false}
-use Rattle.forms.specs.Sections.{entries}
+use lib.Dec.{leb-zero}
 use Rattle.forms.proofs.Sections.{count_stop, count_go, turn_go, turn_stop, turn_end}
 use Rattle.plans.specs.Faults.{number_of}
-use Rattle.plans.specs.Reader.{above, numbers}
+use Rattle.plans.specs.Reader.{numbers}
 use Rattle.plans.proofs.Sections.{least_more, rising-piece}
 use borrow.Author.Rules.{rules}
 use Rattle.plans.proofs.read_numbers.Goals as goal

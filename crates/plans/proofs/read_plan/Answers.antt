@@ -4,7 +4,6 @@ use mathlib.Core.List.{List, [], ◌∷◌, map}
 use Prim.Native.Nat.{ℕ}
 use native.Mathlib.Omega.{arith}
 use lib.ListN.{take}
-use borrow.Author.Tests.{not-true, not-false}
 use Rattle.sequences.proofs.Arrays.{map-take}
 use Rattle.forms.specs.Sections.{got, section}
 use Rattle.forms.proofs.Pieces.{seen-got, seen-bad}
@@ -12,7 +11,6 @@ use Rattle.plans.specs.Reader.{clocks, loggers, kinds, nodes}
 use Rattle.plans.specs.Views.{node_of}
 use Rattle.plans.proofs.Whole.{bad-clocks, bad-loggers, bad-kinds, bad-nodes, bytes_remain, whole-plan}
 use Rattle.plans.proofs.Slots.{slotted-none}
-use borrow.Author.Rules.{rules}
 use Rattle.plans.proofs.read_plan.Goals as goal
 use Rattle.plans.proofs.read_plan.Lts as lts
 use Rattle.plans.proofs.read_plan.Tie as tie

@@ -1,6 +1,5 @@
 -- `plans::slot_of`: by the four cases.
 use Rattle.plans.proofs.Slots.{slot-kind, slot-node, slot-other, slot-past}
-use borrow.Author.Rules.{rules}
 use Rattle.plans.proofs.slot_of.Goals as goal
 
 pub returns-then-input-kinds : goal.returns-then-input-kinds
