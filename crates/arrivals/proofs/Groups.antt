@@ -5,7 +5,6 @@ use mathlib.Core.Path.{◌≡◌, refl, sym, ap, ◌∙◌}
 use Prim.Native.Nat.{ℕ, zero, suc, ◌≤◌, ◌<◌}
 use native.Mathlib.Omega.{arith}
 use lib.ListN.{get_or, length, replicate, set}
-use Rattle.sequences.specs.Choice.{pick}
 use Rattle.sequences.specs.Loops.{fold}
 use Rattle.sequences.specs.Marks.{first_mark, marked}
 use Rattle.sequences.proofs.Loops.{fold-none, fold_next}
@@ -13,11 +12,11 @@ use Rattle.sequences.proofs.Marks.{marked-first, marked-none, marked-some}
 use Rattle.timestamps.specs.Order.{Clocks}
 use Rattle.occurrences.specs.declared.Occurrence.{Occurrence}
 use Rattle.occurrences.specs.Occurrences.{no_occurrence}
-use Rattle.contexts.specs.Made.{accumulated_of, accumulation_of, groups_of}
+use Rattle.contexts.specs.Made.{accumulation_of, groups_of}
 use Rattle.contexts.specs.Steps.{Some}
 use Rattle.contexts.specs.Table.{Findings, each, together}
 use Rattle.contexts.proofs.Only.{marked_off}
-use Rattle.emissions.specs.Emissions.{Emitting, emitted, emitted_all}
+use Rattle.emissions.specs.Emissions.{Emitting}
 
 -- ---- one mark
 marked_one : (l : List Occurrence) (n i : ℕ) → i < n → i < length l → marked l (set (replicate n false) i true) ≡ get_or l i no_occurrence ∷ []

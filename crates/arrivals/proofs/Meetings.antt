@@ -11,7 +11,7 @@ use Rattle.timestamps.specs.Order.{Clocks}
 use Rattle.occurrences.specs.declared.Occurrence.{Occurrence}
 use Rattle.waiting_lists.proofs.Marks.{padded-next}
 use Rattle.contexts.specs.Choice.{chosen, removed_of, removes, taken_of, takes}
-use Rattle.contexts.specs.Table.{Removed, untaken, taken, all, Taken, Context}
+use Rattle.contexts.specs.Table.{Removed, untaken, taken, all, Context}
 
 -- no mark at all
 unmarked_all : (m : List Bool) → first_mark m ≡ length m → m ≡ replicate (length m) false

@@ -1,5 +1,7 @@
 // One arrival at a node, part by part: the candidates among those that wait, those taken and removed, the findings, and whether the arrival waits itself.
 // Waiting lists, a row for what the node makes and a tally are lent; what is returned is the limit that ends the work, if one is met.
+#![tactic(auto)]
+
 ghost use Rattle.std.specs.Prelude.{List, ◌∷◌, map, ◌≡◌, ℕ, ◌<◌, length};
 ghost use Rattle.sequences.specs.Marks.{first_mark, marked};
 ghost use Rattle.detections.specs.Writing.{Beyond};

@@ -1,1 +1,3 @@
+#![tactic(auto)]
+
 // Examples of the run, as theorems: proofs/ has them.

@@ -1,4 +1,6 @@
 // The comparison of two lent lists of timestamps, one of the two calls that stand open to any caller.
+#![tactic(auto)]
+
 ghost use Rattle.std.specs.Prelude.{◌≡◌, true, ◌&&◌, ◌||◌};
 ghost use Rattle.timestamps.specs.Order.{clearly_earlier, clocks_of, valid};
 ghost use Rattle.open_calls.specs.Steps.{join_verdict};

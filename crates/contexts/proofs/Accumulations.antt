@@ -1,5 +1,5 @@
 -- What is accumulated: the lefts, the arrival and the middles between.
-use Rattle.std.proofs.Common.{◌≡◌, ℕ, ◌<◌, Bool, true, false, not, ◌&&◌, ◌||◌, List, [], ◌∷◌, ◌++◌, map, length, get_or, set, sym, refl, ap, ◌∙◌}
+use Rattle.std.proofs.Common.{◌≡◌, ◌<◌, Bool, true, false, ◌&&◌, List, ◌∷◌, ◌++◌, map, length, get_or, set, sym, refl, ap, ◌∙◌}
 use mathlib.Core.List.{zip_with}
 use Rattle.sequences.specs.Loops.{fold}
 use Rattle.sequences.specs.Marks.{first_mark, marked, padded}

@@ -10,7 +10,7 @@ use Rattle.sequences.proofs.Marks.{marked-first}
 use Rattle.timestamps.specs.Composite.{IsComposite, members}
 use Rattle.timestamps.specs.Order.{Clocks}
 use Rattle.occurrences.specs.declared.Occurrence.{Occurrence}
-use Rattle.occurrences.specs.Occurrences.{is_before, no_occurrence}
+use Rattle.occurrences.specs.Occurrences.{no_occurrence}
 use Rattle.occurrences.proofs.Orders.{not-before_itself}
 use Rattle.waiting_lists.specs.Marks.{marks_of}
 use Rattle.waiting_lists.proofs.Marks.{length_marks, marks_and}

@@ -1,4 +1,6 @@
 // What each context takes, makes and removes: document 01's table of four rows, the candidates, the choice, and what is made of those taken.
+#![tactic(auto)]
+
 ghost use Rattle.std.specs.Prelude.{◌≡◌, ◌<◌, ◌≤◌, true, false, not, ◌&&◌, List, length, take, replicate, ◌==◌, slice_index_or, slice_set};
 ghost use Rattle.sequences.specs.Loops.{fold};
 ghost use Rattle.sequences.specs.Marks.{first_mark, marked};

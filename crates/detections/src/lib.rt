@@ -1,4 +1,6 @@
 // Findings as bytes: how many the finding of an occurrence takes, and writing it where exactly that many fit.
+#![tactic(auto)]
+
 ghost use Rattle.std.specs.Prelude.{◌≡◌, List, ℕ, ◌+◌, ◌≤◌, ◌<◌, leb, get_or, length};
 ghost use Rattle.forms.specs.Bytes.{big_endian};
 ghost use Rattle.forms.specs.Forms.{number, each, section_bytes};

@@ -1,4 +1,6 @@
 // What a node makes from one event: findings to the output and to later nodes, until a limit ends the work.
+#![tactic(auto)]
+
 ghost use Rattle.std.specs.Prelude.{List, ◌≡◌, ℕ, get_or, length};
 ghost use Rattle.detections.specs.Writing.{Beyond};
 ghost use Rattle.occurrences.specs.declared.Occurrence.{Occurrence};

@@ -1,5 +1,7 @@
 // A set of event numbers below 128, held as the bits of two words. Document 01: "the event list of
 // an occurrence is a set of up to 128 event numbers". Every function takes any set and any number.
+#![tactic(auto)]
+
 ghost use Rattle.std.specs.Prelude.{◌≡◌};
 ghost use Rattle.event_sets.specs.Sets.{no_events, has, marked_with, union_of, size_of, next_bit, next_from};
 

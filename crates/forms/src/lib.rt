@@ -1,4 +1,6 @@
 // Binary layouts: big-endian numbers of any width. The specification has forms, sections and their laws, for any file.
+#![tactic(auto)]
+
 ghost use Rattle.std.specs.Prelude.{◌≡◌, ◌+◌, ◌-◌, ◌≤◌, length};
 ghost use Rattle.forms.specs.Bytes.{value_at};
 ghost use Rattle.forms.specs.Sections.{within};

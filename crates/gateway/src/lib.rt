@@ -1,4 +1,6 @@
 // File working: a passage under a plan, both from their bytes, into a lent output.
+#![tactic(auto)]
+
 ghost use Rattle.std.specs.Prelude.{false, true, List, ◌⊎◌, ◌≡◌, ℕ, ◌≤◌, ◌<◌, get_or, replicate};
 ghost use Rattle.sequences.specs.Choice.{pick};
 ghost use Rattle.plans.specs.Views.{Slotted};

@@ -1,5 +1,5 @@
 -- A file event: the events' bits, and its own number plus one in the byte of its logger.
-use Rattle.std.proofs.Common.{◌≡◌, ℕ, ◌+◌, ◌*◌, ◌%◌, ◌^◌, ◌<◌, List, [], ◌∷◌, length, get_or, sym, refl, ap, ◌∙◌, inl, inr, arith}
+use Rattle.std.proofs.Common.{◌≡◌, ℕ, ◌+◌, ◌*◌, ◌%◌, ◌^◌, ◌<◌, List, [], ◌∷◌, length, get_or, sym, ap, ◌∙◌, inl, inr, arith}
 use mathlib.Core.List.Memᴰ
 use native.Mathlib.Decide.{ℕ_discrete}
 use Rattle.sequences.specs.Members.{◌is_in◌}
@@ -10,7 +10,7 @@ use Rattle.timestamps.specs.Order.{blank}
 use Rattle.timestamps.proofs.Composite.{composite_of-same, same-stamp}
 use Rattle.timestamps.proofs.Composites.{composite-same, one_composite}
 use Rattle.occurrences.specs.Occurrences.{of_event}
-use Rattle.occurrences.specs.Packed.{Names, Notes, Sound, Stands, byte_at, from_words, occurrence_of, words_of}
+use Rattle.occurrences.specs.Packed.{Names, Notes, Stands, byte_at, from_words, occurrence_of, words_of}
 use Rattle.occurrences.specs.Steps.{note_at}
 use Rattle.occurrences.proofs.Bytes.{lone_byte, other_byte}
 use Rattle.occurrences.proofs.Combination.{same-occurrence}

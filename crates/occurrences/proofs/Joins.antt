@@ -1,5 +1,5 @@
 -- The join by notes: of each logger the later stamp, and of these those that are not clearly earlier than the highest global tick, are those before none.
-use Rattle.std.proofs.Common.{◌≡◌, ℕ, ◌+◌, ◌-◌, ◌<◌, ◌≤◌, max, Bool, true, ◌⊎◌, List, [], ◌∷◌, ◌++◌, length, get_or, sym, refl, ap, ◌∙◌, ap₂, inl, inr, ⊎_elim, arith, le-ltb, lt-ltb}
+use Rattle.std.proofs.Common.{◌≡◌, ℕ, ◌+◌, ◌-◌, ◌<◌, ◌≤◌, max, Bool, true, ◌⊎◌, List, [], ◌∷◌, ◌++◌, get_or, sym, refl, ap, ◌∙◌, ap₂, inl, inr, ⊎_elim, arith, le-ltb, lt-ltb}
 use mathlib.Core.List.Memᴰ
 use native.Mathlib.Decide.{dec_lt}
 use Rattle.sequences.specs.Members.{◌is_in◌, SameMembers}
@@ -18,7 +18,7 @@ use Rattle.timestamps.proofs.Maxima.{Covers, maxima_covered, maxima_in, maxima_o
 use Rattle.timestamps.proofs.Stamps.{Before, before-is, before-says, before_strict, clear_before, global, one_clock, two-clocks}
 use Rattle.occurrences.specs.declared.Occurrence.{Occurrence}
 use Rattle.occurrences.specs.Combination.{combined_of}
-use Rattle.occurrences.specs.Packed.{Names, Notes, Sound, Stands, byte_at, from_words, occurrence_of, words_of}
+use Rattle.occurrences.specs.Packed.{Names, Notes, Stands, byte_at, from_words, occurrence_of, words_of}
 use Rattle.occurrences.specs.Steps.{Bytes, Highest, Settled, kept_of, later_at, later_of, note_at}
 use Rattle.occurrences.proofs.Bytes.{byte_small, bytes-some}
 use Rattle.occurrences.proofs.Combination.{same-occurrence}

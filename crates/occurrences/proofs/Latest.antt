@@ -1,11 +1,11 @@
 -- A file event is exact, and the combination of exact parts is.
-use Rattle.std.proofs.Common.{◌≡◌, ℕ, ◌<◌, Bool, true, false, ◌||◌, eqb, ◌⊎◌, List, [], ◌∷◌, ◌++◌, map, length, get_or, sym, refl, ap, ◌∙◌, inl, inr, ⊎_elim, arith, eq-eqb, eqb-true}
+use Rattle.std.proofs.Common.{◌≡◌, ℕ, ◌<◌, true, eqb, List, [], ◌∷◌, ◌++◌, map, length, get_or, sym, refl, ap, ◌∙◌, inl, inr, ⊎_elim, arith, eq-eqb, eqb-true}
 use mathlib.Core.List.Memᴰ
 use Rattle.sequences.specs.Members.{◌is_in◌, SameMembers}
-use Rattle.sequences.proofs.Booleans.{or_cases, or_left, or_right, never_both}
+use Rattle.sequences.proofs.Booleans.{or_cases, or_left, never_both}
 use Rattle.sequences.proofs.Members.{get_or_in, map_in, map_of}
 use Rattle.event_sets.specs.declared.EventSet.{EventSet}
-use Rattle.event_sets.specs.Sets.{elements, has, marked_with, no_events, union_of}
+use Rattle.event_sets.specs.Sets.{elements, has, no_events, union_of}
 use Rattle.event_sets.proofs.Members.{elements-has, elements-none, elements_one, elements_union, has-marked, has-none, has_union}
 use Rattle.timestamps.specs.declared.Timestamp.{Timestamp}
 use Rattle.timestamps.specs.Composite.{members}

@@ -1,12 +1,10 @@
 -- Lists of packed occurrences and what they stand for.
-use Rattle.std.proofs.Common.{◌≡◌, ℕ, ◌<◌, List, [], ◌∷◌, ◌++◌, map, length, get_or, sym, refl, ap, ◌∙◌, subst, ap₂, ⊎_elim}
+use Rattle.std.proofs.Common.{◌≡◌, ℕ, ◌<◌, List, [], ◌∷◌, ◌++◌, length, get_or, sym, refl, ap, ◌∙◌, subst, ap₂, ⊎_elim}
 use mathlib.Core.List.Memᴰ
 use mathlib.Core.List.{map-append}
 use lib.ListN.{length-map}
-use Rattle.sequences.specs.Members.{◌is_in◌}
 use Rattle.sequences.proofs.Members.{get_or_in}
 use Rattle.sequences.proofs.Parts.{get_d_map}
-use Rattle.timestamps.specs.Composite.{members}
 use Rattle.occurrences.specs.declared.Occurrence.{Occurrence}
 use Rattle.occurrences.specs.Occurrences.{no_occurrence}
 use Rattle.occurrences.specs.Packed.{Notes, Sound, Stand, Stands, Within, occurrence_of}

@@ -1,5 +1,5 @@
 -- The stamps of a packed occurrence by the notes at its logger places.
-use Rattle.std.proofs.Common.{◌≡◌, ℕ, ◌+◌, ◌-◌, ◌<◌, ◌≤◌, ◌⊎◌, List, length, get_or, sym, refl, ap, ◌∙◌, subst, inl, inr, ⊎_elim, arith}
+use Rattle.std.proofs.Common.{◌≡◌, ℕ, ◌+◌, ◌<◌, ◌≤◌, List, length, get_or, sym, refl, ap, ◌∙◌, subst, inl, inr, ⊎_elim, arith}
 use native.Mathlib.Decide.{ℕ_discrete}
 use Rattle.sequences.specs.Members.{◌is_in◌, SameMembers}
 use Rattle.timestamps.specs.declared.Timestamp.{Timestamp}
@@ -8,7 +8,7 @@ use Rattle.timestamps.specs.Order.{Clocks, blank}
 use Rattle.timestamps.proofs.Composite.{same-stamp}
 use Rattle.timestamps.proofs.Stamps.{global}
 use Rattle.occurrences.specs.declared.Occurrence.{Occurrence}
-use Rattle.occurrences.specs.Packed.{Names, Notes, Sound, Stands, Within, byte_at, occurrence_of}
+use Rattle.occurrences.specs.Packed.{Names, Notes, Sound, Stands, Within, byte_at}
 use Rattle.occurrences.specs.Steps.{Lowest, note_at}
 use Rattle.occurrences.proofs.Views.{latest_in, stamp, stamps_in_lem, stamps_of_lem, stamps_in}
 

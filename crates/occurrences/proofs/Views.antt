@@ -1,11 +1,10 @@
 -- The stamps of packed numbers: what the notes at the logger places say, and the composite that they are.
-use Rattle.std.proofs.Common.{◌≡◌, ℕ, ◌+◌, ◌-◌, ◌<◌, ◌≤◌, Bool, true, ltb, List, [], ◌∷◌, map, get_or, sym, refl, ap, ◌∙◌, ⊎_elim, arith, ltb-false, ltb-true, lt-ltb, eq-eqb, eqb-true}
+use Rattle.std.proofs.Common.{◌≡◌, ℕ, ◌+◌, ◌-◌, ◌<◌, ◌≤◌, true, ltb, List, [], ◌∷◌, get_or, sym, refl, ap, ◌∙◌, ⊎_elim, arith, ltb-false, ltb-true, lt-ltb, eq-eqb, eqb-true}
 use Rattle.sequences.specs.Members.{◌is_in◌}
 use Rattle.sequences.specs.Select.{some_passes}
 use Rattle.sequences.proofs.Booleans.{either_way, same_test}
 use Rattle.sequences.proofs.Select.{any_in, any_of}
 use Rattle.timestamps.specs.declared.CompositeTimestamp.{CompositeTimestamp}
-use Rattle.timestamps.specs.declared.LocalTick.{LocalTick}
 use Rattle.timestamps.specs.declared.Timestamp.{Timestamp}
 use Rattle.timestamps.specs.Composite.{composite_of, members, of_logger, tick_of}
 use Rattle.timestamps.proofs.Composite.{OnePerLogger, same-stamp, tick_of_in, tick_of-none}

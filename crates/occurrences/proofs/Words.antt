@@ -1,5 +1,5 @@
 -- What the ten numbers say of each logger place, and of the timestamps of what they stand for.
-use Rattle.std.proofs.Common.{◌≡◌, ℕ, ◌+◌, ◌-◌, ◌<◌, Bool, false, ltb, List, map, length, get_or, drop, sym, refl, ap, ◌∙◌, arith, length-drop, get_or-drop, ext_get_or, ltb-true, lt-ltb}
+use Rattle.std.proofs.Common.{◌≡◌, ℕ, ◌+◌, ◌-◌, ◌<◌, Bool, false, ltb, List, map, length, get_or, drop, sym, ap, ◌∙◌, arith, length-drop, get_or-drop, ext_get_or, ltb-true, lt-ltb}
 use lib.ListN.{length-map, get_or-map}
 use Rattle.sequences.specs.Members.{◌is_in◌}
 use Rattle.sequences.proofs.Range.{length_range}
@@ -8,9 +8,7 @@ use Rattle.timestamps.specs.declared.LocalTick.{LocalTick}
 use Rattle.timestamps.specs.declared.Timestamp.{Timestamp}
 use Rattle.timestamps.specs.Composite.{logger_places, members, present_at, tick_zero}
 use Rattle.timestamps.proofs.Composite.{Holds, at_place, members_in, members_of}
-use Rattle.occurrences.specs.declared.Occurrence.{Occurrence}
 use Rattle.occurrences.specs.Packed.{from_words}
-use Rattle.occurrences.proofs.Combination.{same-occurrence}
 
 -- the word of a logger place
 abbrev pub word_at : List ℕ → ℕ → ℕ

@@ -1,5 +1,5 @@
 -- Document 01, "How an event is worked": a combined occurrence has the join of its parts' stamps and the union of their events.
-use Rattle.std.specs.Prelude.{ℕ, List, [], ◌∷◌, ◌++◌}
+use Rattle.std.specs.Prelude.{List, [], ◌∷◌, ◌++◌}
 use Rattle.event_sets.specs.declared.EventSet.{EventSet}
 use Rattle.event_sets.specs.Sets.{no_events, union_of}
 use Rattle.timestamps.specs.declared.Timestamp.{Timestamp}

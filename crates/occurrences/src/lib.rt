@@ -1,5 +1,7 @@
 // Occurrences: a composite timestamp and a set of events, packed into three numbers beside what is noted of the events (specs/Packed.antt), and how they
 // combine. One logger is compared by local ticks, two by global ticks; nothing here divides.
+#![tactic(auto)]
+
 ghost use Rattle.std.specs.Prelude.{◌≡◌, ℕ, ◌+◌, ◌%◌, ◌^◌, ◌<◌, List, length, get_or, slice_index, slice_index_or};
 ghost use Rattle.occurrences.specs.declared.Occurrence.{Occurrence};
 ghost use Rattle.occurrences.specs.Combination.{combined_of};

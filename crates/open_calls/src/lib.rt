@@ -1,4 +1,6 @@
 // The join of a lent list, one of the two calls that stand open to any caller; and what it shares with the other, the comparison.
+#![tactic(auto)]
+
 ghost use Rattle.std.specs.Prelude.{◌≡◌, true, false, List, [], ◌∷◌, ◌++◌, ℕ, ◌<◌, ltb, length};
 ghost use Rattle.sequences.specs.Select.{each_passes};
 ghost use Rattle.timestamps.specs.declared.Timestamp.{Timestamp};

@@ -1,5 +1,5 @@
 -- Document 01, "How an event is worked", and Q-2: what an arrival by each input does, one row for each operator.
-use Rattle.std.specs.Prelude.{List, [], ◌∷◌, ℕ, ◌-◌, get_or}
+use Rattle.std.specs.Prelude.{List, [], ◌∷◌, ℕ, get_or}
 use Rattle.arrivals.specs.Meetings.{Action, pass, wait, meet, meet_and_wait, delete, accumulate, absent, nothing}
 
 -- OR passes each arrival on

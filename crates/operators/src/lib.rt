@@ -1,5 +1,7 @@
 // The table of operators, and what it makes of the arrivals of an input at a node, until a limit ends the work. The node's waiting lists, a row for what it
 // makes and a tally are lent.
+#![tactic(auto)]
+
 ghost use Rattle.std.specs.Prelude.{List, ◌≡◌, ℕ, ◌≤◌, ◌<◌, get_or, length};
 ghost use Rattle.detections.specs.Writing.{Beyond};
 ghost use Rattle.occurrences.specs.declared.Occurrence.{Occurrence};

@@ -1,5 +1,7 @@
 // The plan file: clocks, loggers, kinds and nodes. The layout, the limits and the numbers of the faults are document 01's,
 // with request Q-2.
+#![tactic(auto)]
+
 ghost use Rattle.std.specs.Prelude.{◌≡◌, ℕ, ◌+◌, ◌<◌, ◌≤◌, List, [], ◌∷◌, map, length, eqb};
 ghost use Rattle.forms.specs.Forms.{number};
 ghost use Rattle.forms.specs.Sections.{outside, piece, section};

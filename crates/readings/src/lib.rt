@@ -1,4 +1,6 @@
 // Reading a finding back from its bytes.
+#![tactic(auto)]
+
 ghost use Rattle.std.specs.Prelude.{◌≡◌, ◌+◌, ◌≤◌, length, take};
 ghost use Rattle.forms.specs.Forms.{number};
 ghost use Rattle.forms.specs.Sections.{outside, piece, section};

@@ -1,5 +1,7 @@
 // The seats of the nodes in a run: for each node its context, where what it makes stands, and for each of its inputs what an arrival does, where arrivals are
 // counted, and where those that wait stand; the inputs that look at each slot; and the inputs that are due in an event.
+#![tactic(auto)]
+
 ghost use Rattle.std.specs.Prelude.{List, map, ◌≡◌, ℕ, min, ◌+◌, ◌*◌, ◌≤◌, ◌<◌, get_or, length, replicate, take};
 ghost use Rattle.std.specs.Int.Count.{count_trailing_zeros};
 ghost use Rattle.plans.specs.declared.Node.{Node};

@@ -1,4 +1,6 @@
 // Timestamps of loggers with separate clocks, and their order. The specification has composite timestamps, their join and their comparison.
+#![tactic(auto)]
+
 ghost use Rattle.std.specs.Prelude.{◌≡◌, max, min, ltb};
 ghost use Rattle.timestamps.specs.Comparison.{order_number, same_order};
 ghost use Rattle.timestamps.specs.Order.{blank, clearly_earlier, quotient, valid, valid_ratio};

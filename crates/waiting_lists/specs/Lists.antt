@@ -1,5 +1,5 @@
 -- A waiting list: which of its places wait, in waiting order; and the list as it is kept, in front of its places.
-use Rattle.std.specs.Prelude.{Bool, List, [], ◌∷◌, map, ◌⊎◌, ◌≡◌, ℕ, ◌+◌, ◌-◌, ◌*◌, ◌/◌, ◌%◌, ◌^◌, ◌≤◌, ◌<◌, eqb, get_or, length, set}
+use Rattle.std.specs.Prelude.{Bool, List, [], map, ◌⊎◌, ◌≡◌, ℕ, ◌+◌, ◌-◌, ◌*◌, ◌/◌, ◌%◌, ◌^◌, ◌≤◌, ◌<◌, eqb, get_or, length, set}
 use Rattle.sequences.specs.Choice.{pick}
 use Rattle.sequences.specs.Marks.{unmarked}
 use Rattle.sequences.specs.Range.{numbers_from}

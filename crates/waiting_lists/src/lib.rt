@@ -1,5 +1,7 @@
 // Waiting lists: at most 16 occurrences, in waiting order. A list says which of its places wait, and in which order; it is kept in front of its places, in a
 // slice that is lent (specs/Lists.antt).
+#![tactic(auto)]
+
 ghost use Rattle.std.specs.Prelude.{false, true, List, [], ◌∷◌, ◌≡◌, ℕ, min, ◌+◌, ◌≤◌, ◌<◌, get_or, length, set};
 ghost use Rattle.sequences.specs.Choice.{pick};
 ghost use Rattle.sequences.specs.Marks.{first_mark, unmarked};

@@ -1,6 +1,5 @@
 -- By the code.
 use Rattle.waiting_lists.specs.declared.WaitingList.{WaitingList}
-use borrow.Author.Rules.{rules}
 use mathlib.Core.Path.{ap, refl}
 use Rattle.arrivals.proofs.blockers_of.Goals as goal
 

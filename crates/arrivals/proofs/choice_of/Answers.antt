@@ -4,7 +4,6 @@ use Rattle.waiting_lists.proofs.Marks.{length_marks, marks_none}
 use Rattle.waiting_lists.proofs.Waits.{waits-few}
 use Rattle.waiting_lists.specs.Marks.{marks_of}
 use Rattle.contexts.specs.Table.{row_of}
-use borrow.Author.Rules.{rules}
 use mathlib.Core.Path.{◌∙◌, sym}
 use Rattle.arrivals.proofs.choice_of.Goals as goal
 

@@ -1,30 +1,20 @@
 -- What is left to make, from the state so far, is the whole; i is the first mark left.
-use Prim.Native.Nat.{ℕ, ◌<◌, ◌≤◌}
-use Rattle.arrivals.proofs.Groups.{group_end, group_turn}
 use Rattle.arrivals.proofs.Views.{Left}
 use Rattle.contexts.specs.Made.{accumulated_of, accumulation_of, groups_of}
 use Rattle.contexts.specs.Choice.{seq_candidates}
-use Rattle.contexts.specs.Steps.{Some}
-use Rattle.contexts.specs.Table.{Findings, row_of}
-use Rattle.detections.proofs.Writing.{beyond_none, beyond_then}
+use Rattle.contexts.specs.Table.{row_of}
 use Rattle.detections.specs.Writing.{Beyond}
 use Rattle.emissions.specs.declared.Limit.TheVariants.{None}
-use Rattle.emissions.specs.Emissions.{Emits, Emitting, bytes_in, emitted, emitted_all, findings_in, reached}
-use Rattle.emissions.proofs.Emitting.{emits_as}
-use Rattle.emissions.proofs.Limits.{emitted_still, unreached}
-use Rattle.sequences.proofs.Loops.{fold_still}
+use Rattle.emissions.specs.Emissions.{Emits, Emitting, bytes_in, emitted, emitted_all, findings_in}
 use Rattle.occurrences.specs.Packed.{Notes, Stands}
 use Rattle.occurrences.specs.declared.Occurrence.{Occurrence}
 use Rattle.sequences.specs.Loops.{fold}
 use Rattle.sequences.specs.Marks.{first_mark, marked}
-use Rattle.waiting_lists.proofs.Waits.{read-few, read_length}
 use Rattle.waiting_lists.specs.Lists.{Waits}
 use Rattle.waiting_lists.specs.Marks.{marks_of}
-use borrow.Author.Rules.{rules}
 use lib.ListN.{length}
-use mathlib.Core.List.{List, ◌∷◌, map}
-use mathlib.Core.Path.{◌∙◌, ◌≡◌, ap, refl, subst, sym}
-use native.Mathlib.Omega.{arith}
+use mathlib.Core.List.{List, map}
+use mathlib.Core.Path.{◌≡◌}
 use Rattle.arrivals.proofs.emit_accumulated.Given as goal
 
 abbrev pub invariant-loop-i : goal.invariant-loop-i

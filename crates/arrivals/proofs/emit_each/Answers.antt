@@ -1,11 +1,9 @@
 -- What is left to make, from the state so far, is the whole; i is the first mark left.
 use Prim.Native.Nat.{ℕ, ◌<◌, ◌≤◌}
 use Rattle.arrivals.proofs.Each.{each_end, each_turn}
-use Rattle.arrivals.proofs.Views.{Left}
 use Rattle.detections.proofs.Writing.{beyond_none, beyond_then}
-use Rattle.detections.specs.Writing.{Beyond}
 use Rattle.emissions.specs.declared.Limit.TheVariants.{None}
-use Rattle.emissions.specs.Emissions.{Emits, Emitting, bytes_in, emitted, emitted_all, findings_in, reached}
+use Rattle.emissions.specs.Emissions.{Emits, Emitting, emitted, emitted_all, reached}
 use Rattle.emissions.proofs.Emitting.{emits_as}
 use Rattle.emissions.proofs.Limits.{emitted_still, unreached}
 use Rattle.sequences.proofs.Loops.{fold_still}

@@ -1,32 +1,18 @@
 -- What is left to make, from the state so far, is the whole; i is the first mark left.
-use Prim.Native.Nat.{ℕ, ◌<◌, ◌≤◌}
-use Rattle.arrivals.proofs.Each.{each_end, each_turn}
 use Rattle.arrivals.proofs.Views.{Left}
-use Rattle.detections.proofs.Writing.{beyond_none, beyond_then}
 use Rattle.detections.specs.Writing.{Beyond}
 use Rattle.emissions.specs.declared.Limit.TheVariants.{None}
-use Rattle.emissions.specs.Emissions.{Emits, Emitting, bytes_in, emitted, emitted_all, findings_in, reached}
-use Rattle.emissions.proofs.Emitting.{emits_as}
-use Rattle.emissions.proofs.Limits.{emitted_still, unreached}
-use Rattle.sequences.proofs.Loops.{fold_still}
-use Rattle.event_sets.proofs.Words.{rest_less}
-use Rattle.occurrences.proofs.Packed.{stands-within}
+use Rattle.emissions.specs.Emissions.{Emits, Emitting, bytes_in, emitted, emitted_all, findings_in}
 use Rattle.occurrences.specs.Combination.{combined_of}
-use Rattle.occurrences.specs.Occurrences.{no_occurrence}
 use Rattle.occurrences.specs.Packed.{Notes, Stands}
 use Rattle.occurrences.specs.declared.Occurrence.{Occurrence}
 use Rattle.sequences.specs.Loops.{fold}
 use Rattle.sequences.specs.Marks.{first_mark, marked}
-use Rattle.waiting_lists.proofs.Marks.{first_some, length_marks, marks_rest}
-use Rattle.waiting_lists.proofs.Waits.{read_at, read-bytes, read-few, read_length, read-place, read_small}
 use Rattle.waiting_lists.specs.Lists.{Waits}
 use Rattle.waiting_lists.specs.Marks.{marks_of}
-use borrow.Author.Rules.{rules}
-use lib.ListN.{get_or, length, set}
-use mathlib.Core.Bool.{Bool, false}
+use lib.ListN.{length}
 use mathlib.Core.List.{List, map}
-use mathlib.Core.Path.{◌∙◌, ◌≡◌, ap, refl, subst, sym}
-use native.Mathlib.Omega.{arith}
+use mathlib.Core.Path.{◌≡◌}
 use Rattle.arrivals.proofs.emit_each.Given as goal
 
 abbrev pub invariant-loop-i : goal.invariant-loop-i

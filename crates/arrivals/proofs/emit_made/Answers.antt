@@ -4,7 +4,6 @@ use Rattle.contexts.specs.Made.{made_of}
 use Rattle.contexts.specs.Table.{each, together}
 use Rattle.emissions.specs.Emissions.{Emits}
 use mathlib.Core.Path.{refl, subst}
-use borrow.Author.Rules.{rules}
 use Rattle.arrivals.proofs.emit_made.Goals as goal
 
 pub returns-then-makes_each : goal.returns-then-makes_each

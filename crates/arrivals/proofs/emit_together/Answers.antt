@@ -11,7 +11,6 @@ use Rattle.waiting_lists.proofs.Marks.{length_marks}
 use Rattle.waiting_lists.proofs.Waits.{read-few, read_length}
 use Rattle.waiting_lists.specs.Marks.{marks_of}
 use mathlib.Core.Path.{refl, subst}
-use borrow.Author.Rules.{rules}
 use Rattle.arrivals.proofs.emit_together.Goals as goal
 
 pub list_of-waiting-requires : goal.list_of-waiting-requires

@@ -1,11 +1,8 @@
 -- The first of them, or all, by the context's row.
 use Rattle.arrivals.proofs.Groups.{next-each, next_together}
-use Rattle.contexts.specs.Table.{row_of}
 use Rattle.event_sets.proofs.Words.{rest_less}
-use Rattle.sequences.specs.Choice.{pick}
 use Rattle.waiting_lists.proofs.Marks.{first_some, length_marks, marks_none, marks_rest}
 use Rattle.waiting_lists.specs.Marks.{marks_of}
-use borrow.Author.Rules.{rules}
 use lib.ListN.{set}
 use mathlib.Core.Bool.{true}
 use mathlib.Core.Path.{◌∙◌, ap, refl}

@@ -7,7 +7,6 @@ use Rattle.waiting_lists.specs.Lists.{Roomy, Waits}
 use lib.ListN.{length}
 use mathlib.Core.Path.{subst, sym}
 use native.Mathlib.Omega.{arith}
-use borrow.Author.Rules.{rules}
 use Rattle.arrivals.proofs.wait.Goals as goal
 
 pub list_of-waiting-requires : goal.list_of-waiting-requires

@@ -5,7 +5,6 @@ use Rattle.sequences.proofs.Booleans.{either_way}
 use Rattle.sequences.specs.Marks.{first_mark}
 use Rattle.waiting_lists.proofs.Marks.{first-is, length_marks}
 use Rattle.waiting_lists.specs.Marks.{marks_of}
-use borrow.Author.Rules.{rules}
 use lib.ListN.{length}
 use mathlib.Core.Logic.{⊎_elim}
 use mathlib.Core.Path.{◌≡◌, ◌∙◌}

@@ -4,7 +4,7 @@ use Rattle.occurrences.proofs.Packed.{stands-within}
 use Rattle.occurrences.specs.Packed.{Stands}
 use Rattle.sequences.specs.Marks.{marked}
 use Rattle.waiting_lists.specs.Marks.{marks_of}
-use Rattle.std.proofs.Common.{subst, rules}
+use Rattle.std.proofs.Common.{subst}
 use Rattle.contexts.proofs.accumulated.Goals as goal
 
 pub between-found-requires : goal.between-found-requires

@@ -1,9 +1,6 @@
 -- The rest from place i on, combined with what there is, is the whole.
-use Rattle.std.proofs.Common.{ℕ, ◌-◌, ◌<◌, ◌≤◌, List, length, sym, ◌∙◌, arith, rules}
-use Rattle.contexts.proofs.Combines.{Combines, combines_end, combines_no, combines_start, combines_yes}
-use Rattle.occurrences.proofs.Packed.{stands-within}
-use Rattle.waiting_lists.proofs.Marks.{length_marks}
-use Rattle.waiting_lists.proofs.Waits.{read-bytes, read-few, read-place, read_small}
+use Rattle.std.proofs.Common.{◌-◌, ◌≤◌}
+use Rattle.contexts.proofs.Combines.{Combines}
 use Rattle.waiting_lists.specs.Marks.{marks_of}
 use Rattle.contexts.proofs.all_combined.Given as goal
 

@@ -1,5 +1,5 @@
 -- As many marks as wait: all bits below a power of two.
-use Rattle.std.proofs.Common.{◌≡◌, sym, ◌∙◌, pow_pos, rules}
+use Rattle.std.proofs.Common.{sym, ◌∙◌, pow_pos, rules}
 use Rattle.event_sets.proofs.Words.{one_shl}
 use Rattle.waiting_lists.proofs.Marks.{marks_below}
 use Rattle.contexts.proofs.Steps.{all_marks}

@@ -1,7 +1,7 @@
 -- No mark is left without the first.
 use Rattle.waiting_lists.proofs.Marks.{marks_none, marks_rest}
 use Rattle.waiting_lists.specs.Marks.{marks_of}
-use Rattle.std.proofs.Common.{sym, ap, ◌∙◌, rules, eqb-true}
+use Rattle.std.proofs.Common.{sym, ap, ◌∙◌, eqb-true}
 use Rattle.contexts.proofs.at_most_one.Goals as goal
 
 pub returns-then-marks-eq0 : goal.returns-then-marks-eq0

@@ -1,19 +1,13 @@
 -- No other candidate before place j bars it.
-use Rattle.std.proofs.Common.{◌≡◌, ℕ, ◌-◌, ◌<◌, ◌≤◌, Bool, false, ◌&&◌, List, [], length, get_or, drop, sym, refl, ap, ◌∙◌, arith, rules}
-use Rattle.contexts.proofs.Steps.{bars_itself, found_here, lows_at, not-here, others_tell}
+use Rattle.std.proofs.Common.{◌≡◌, ◌-◌, ◌≤◌, List, length, get_or, drop}
 use Rattle.contexts.specs.Steps.{Lows, bars_of}
 use Rattle.contexts.specs.Table.{takes_of}
-use Rattle.occurrences.proofs.Seen.{stands-composite}
 use Rattle.occurrences.specs.Occurrences.{no_occurrence}
-use Rattle.occurrences.specs.Packed.{Notes, Within}
+use Rattle.occurrences.specs.Packed.{Notes}
 use Rattle.occurrences.specs.declared.Occurrence.{Occurrence}
-use Rattle.sequences.proofs.Marks.{marked_end}
 use Rattle.sequences.specs.Marks.{marked}
 use Rattle.sequences.specs.Select.{some_passes}
-use Rattle.waiting_lists.proofs.Marks.{length_marks}
-use Rattle.waiting_lists.proofs.Waits.{read_at, read-bytes, read-few, read_length, read-place, read_small, waits-few}
-use Rattle.waiting_lists.specs.declared.WaitingList.{WaitingList}
-use Rattle.waiting_lists.specs.Lists.{Waits, list_of, place_in}
+use Rattle.waiting_lists.specs.Lists.{Waits}
 use Rattle.waiting_lists.specs.Marks.{marks_of}
 use Rattle.contexts.proofs.barred.Given as goal
 

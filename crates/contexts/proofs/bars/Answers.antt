@@ -4,7 +4,7 @@ use Rattle.contexts.proofs.Steps.{marked_on, unmarked_off, word_tells}
 use Rattle.contexts.specs.Steps.{bars_by}
 use Rattle.contexts.specs.Table.{takes_of}
 use Rattle.occurrences.proofs.Seen.{stands-composite}
-use Rattle.std.proofs.Common.{ap, ◌∙◌, rules}
+use Rattle.std.proofs.Common.{ap, ◌∙◌}
 use Rattle.contexts.proofs.bars.Goals as goal
 
 pub returns-then-not-is : goal.returns-then-not-is

@@ -1,16 +1,10 @@
 -- The marks before place i are those of the middles between.
-use Rattle.std.proofs.Common.{◌≡◌, ℕ, ◌-◌, ◌<◌, ◌≤◌, Bool, ◌&&◌, List, length, take, ◌∙◌, arith, rules}
-use Rattle.contexts.proofs.Steps.{zipped_turn}
-use Rattle.contexts.specs.Steps.{after_marks}
+use Rattle.std.proofs.Common.{◌≡◌, ℕ, ◌-◌, ◌≤◌, Bool, ◌&&◌, List, take}
 use Rattle.occurrences.specs.Occurrences.{is_before}
 use Rattle.occurrences.specs.Packed.{Notes}
 use Rattle.occurrences.specs.declared.Occurrence.{Occurrence}
-use Rattle.sequences.proofs.Arrays.{length_zip}
-use Rattle.sequences.proofs.Marks.{padded_end, padded-start}
 use Rattle.sequences.specs.Marks.{marked, padded}
 use Rattle.sequences.specs.Select.{some_passes}
-use Rattle.waiting_lists.proofs.Marks.{length_marks, marks_none}
-use Rattle.waiting_lists.proofs.Waits.{read_at, read-few, read_length, read-place, read_small, waits-few}
 use Rattle.waiting_lists.specs.Lists.{Waits}
 use Rattle.waiting_lists.specs.Marks.{marks_of}
 use mathlib.Core.List.{zip_with}

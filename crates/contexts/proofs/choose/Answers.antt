@@ -1,6 +1,5 @@
 -- The row, what it takes, and what it removes.
 use Rattle.contexts.proofs.Steps.{chosen_is}
-use Rattle.std.proofs.Common.{rules}
 use Rattle.contexts.proofs.choose.Goals as goal
 
 pub returns : goal.returns

@@ -1,7 +1,6 @@
 -- One that is before the arrival, and after a left.
 use Rattle.std.proofs.Common.{ap, not}
 use Rattle.contexts.proofs.Steps.{marked_on, unmarked_off}
-use Rattle.std.proofs.Common.{rules}
 use Rattle.contexts.proofs.is_between.Goals as goal
 
 pub returns-then-not-is : goal.returns-then-not-is

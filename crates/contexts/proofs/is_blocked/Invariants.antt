@@ -1,16 +1,11 @@
 -- No middle before place j blocks it; only the first `blockers` of them are looked at.
-use Rattle.std.proofs.Common.{◌≡◌, ℕ, ◌-◌, ◌<◌, ◌≤◌, true, false, List, length, get_or, take, drop, sym, refl, ap, ◌∙◌, arith, length-take-le, get_or-take, rules}
-use Rattle.contexts.proofs.Absences.{any_here, any_later, any_past}
+use Rattle.std.proofs.Common.{◌≡◌, ◌-◌, ◌≤◌, List, take, drop}
 use Rattle.contexts.specs.Choice.{blocks}
-use Rattle.occurrences.proofs.Packed.{stands-within}
-use Rattle.occurrences.specs.Occurrences.{no_occurrence}
 use Rattle.occurrences.specs.Packed.{Notes, Stands}
 use Rattle.occurrences.specs.Steps.{LowestOf}
 use Rattle.occurrences.specs.declared.Occurrence.{Occurrence}
 use Rattle.sequences.specs.Select.{some_passes}
-use Rattle.waiting_lists.proofs.Waits.{read_at, read-bytes, read-few, read-place, read_small, waits-length}
 use Rattle.waiting_lists.specs.Lists.{Waits}
-use Rattle.waiting_lists.specs.declared.WaitingList.{WaitingList}
 use Rattle.contexts.proofs.is_blocked.Given as goal
 
 abbrev pub invariant-loop-j : goal.invariant-loop-j

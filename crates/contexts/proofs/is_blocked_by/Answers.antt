@@ -1,7 +1,6 @@
 -- By both words.
 use Rattle.std.proofs.Common.{ap, not}
 use Rattle.contexts.proofs.Absences.{blocked_by, passed_by}
-use Rattle.std.proofs.Common.{rules}
 use Rattle.contexts.proofs.is_blocked_by.Goals as goal
 
 pub lowest-own-requires : goal.lowest-own-requires

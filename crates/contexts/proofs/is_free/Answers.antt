@@ -7,7 +7,7 @@ use Rattle.occurrences.specs.Steps.{LowestOf}
 use Rattle.occurrences.specs.declared.Occurrence.{Occurrence}
 use Rattle.timestamps.specs.Comparison.{same_order}
 use Rattle.timestamps.specs.declared.Order.TheVariants.{Before}
-use Rattle.std.proofs.Common.{◌≡◌, ap, not, ◌∙◌, rules}
+use Rattle.std.proofs.Common.{◌≡◌, ap, not, ◌∙◌}
 use Rattle.contexts.proofs.is_free.Goals as goal
 use Rattle.contexts.proofs.is_free.Lts as lts
 use Rattle.contexts.proofs.is_free.Tie as tie

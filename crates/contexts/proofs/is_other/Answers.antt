@@ -1,5 +1,5 @@
 -- By the two cases.
-use Rattle.std.proofs.Common.{rules, eq-eqb, ne_eqb}
+use Rattle.std.proofs.Common.{eq-eqb, ne_eqb}
 use Rattle.contexts.proofs.is_other.Goals as goal
 
 pub returns-then-i-j : goal.returns-then-i-j

@@ -1,7 +1,6 @@
 -- A candidate that no other bars.
 use Rattle.std.proofs.Common.{ap, not}
 use Rattle.contexts.proofs.Steps.{taken_unbarred, unmarked_off}
-use Rattle.std.proofs.Common.{rules}
 use Rattle.contexts.proofs.is_taken.Goals as goal
 
 pub returns-then-not-is : goal.returns-then-not-is

@@ -1,5 +1,5 @@
 -- By the row's code.
-use Rattle.std.proofs.Common.{rules, eqb-true}
+use Rattle.std.proofs.Common.{eqb-true}
 use borrow.Author.Tests.{eqb-false}
 use Rattle.contexts.proofs.Steps.{afterwards-joins, afterwards_consumed}
 use Rattle.contexts.proofs.joins_afterwards.Goals as goal

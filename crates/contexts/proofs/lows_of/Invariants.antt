@@ -1,9 +1,6 @@
 -- The lowest of each before place i are there.
-use Rattle.std.proofs.Common.{◌≡◌, ℕ, ◌-◌, ◌<◌, ◌≤◌, List, length, set, ap, subst, arith, length-set, rules}
-use Rattle.contexts.proofs.Steps.{lows_turn}
+use Rattle.std.proofs.Common.{◌≡◌, ◌-◌, ◌≤◌, length}
 use Rattle.contexts.specs.Steps.{Lows}
-use Rattle.waiting_lists.proofs.Waits.{read-bytes, read-few, read-place, read_small}
-use Rattle.waiting_lists.specs.declared.WaitingList.{WaitingList}
 use Rattle.contexts.proofs.lows_of.Given as goal
 
 abbrev pub invariant-loop-i : goal.invariant-loop-i

@@ -1,6 +1,5 @@
 -- The row at that place.
 use Rattle.contexts.proofs.Table.{no_row, row_at}
-use Rattle.std.proofs.Common.{rules}
 use Rattle.contexts.proofs.row_of.Goals as goal
 
 pub returns : goal.returns

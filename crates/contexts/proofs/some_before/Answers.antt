@@ -1,5 +1,5 @@
 -- What is left to look at tells the whole; i is the first mark left.
-use Rattle.std.proofs.Common.{◌≡◌, ℕ, ◌<◌, ◌≤◌, Bool, List, [], length, get_or, sym, refl, ap, ◌∙◌, arith, rules}
+use Rattle.std.proofs.Common.{◌≡◌, ℕ, ◌<◌, ◌≤◌, Bool, List, [], length, get_or, sym, refl, ap, ◌∙◌, arith}
 use Rattle.contexts.proofs.Accumulations.{some-here, some-later}
 use Rattle.event_sets.proofs.Words.{rest_less}
 use Rattle.occurrences.proofs.Packed.{stands-within}
@@ -7,7 +7,7 @@ use Rattle.occurrences.specs.Occurrences.{is_before, no_occurrence}
 use Rattle.occurrences.specs.Packed.{Notes, Stands, Within}
 use Rattle.occurrences.specs.declared.Occurrence.{Occurrence}
 use Rattle.sequences.proofs.Marks.{marked-none}
-use Rattle.sequences.specs.Marks.{first_mark, marked}
+use Rattle.sequences.specs.Marks.{first_mark}
 use Rattle.sequences.specs.Select.{some_passes}
 use Rattle.timestamps.specs.declared.Order.TheVariants.{Before}
 use Rattle.timestamps.specs.Comparison.{same_order}

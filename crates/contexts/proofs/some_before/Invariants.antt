@@ -1,18 +1,10 @@
 -- What is left to look at tells the whole; i is the first mark left.
-use Rattle.std.proofs.Common.{◌≡◌, ℕ, ◌<◌, ◌≤◌, Bool, List, [], length, get_or, sym, refl, ap, ◌∙◌, arith, rules}
-use Rattle.contexts.proofs.Accumulations.{some-here, some-later}
-use Rattle.event_sets.proofs.Words.{rest_less}
-use Rattle.occurrences.proofs.Packed.{stands-within}
-use Rattle.occurrences.specs.Occurrences.{is_before, no_occurrence}
-use Rattle.occurrences.specs.Packed.{Notes, Stands, Within}
+use Rattle.std.proofs.Common.{◌≡◌, List}
+use Rattle.occurrences.specs.Occurrences.{is_before}
+use Rattle.occurrences.specs.Packed.{Notes, Stands}
 use Rattle.occurrences.specs.declared.Occurrence.{Occurrence}
-use Rattle.sequences.proofs.Marks.{marked-none}
 use Rattle.sequences.specs.Marks.{first_mark, marked}
 use Rattle.sequences.specs.Select.{some_passes}
-use Rattle.timestamps.specs.declared.Order.TheVariants.{Before}
-use Rattle.timestamps.specs.Comparison.{same_order}
-use Rattle.waiting_lists.proofs.Marks.{first_some, length_marks, marks_rest}
-use Rattle.waiting_lists.proofs.Waits.{read_at, read-bytes, read-few, read_length, read-place, read_small}
 use Rattle.waiting_lists.specs.Lists.{Waits}
 use Rattle.waiting_lists.specs.Marks.{marks_of}
 use Rattle.contexts.proofs.some_before.Given as goal

@@ -1,18 +1,10 @@
 -- Every candidate that waits; else the marks before place i are those of the rule.
-use Rattle.std.proofs.Common.{◌≡◌, ℕ, ◌-◌, ◌<◌, ◌≤◌, ◌&&◌, List, length, take, sym, refl, ap, ◌∙◌, arith, rules}
-use Rattle.contexts.proofs.Only.{only_taken}
-use Rattle.contexts.proofs.Steps.{every_taken, zipped_turn}
-use Rattle.contexts.specs.Choice.{taken_of, takes}
+use Rattle.std.proofs.Common.{◌≡◌, ◌-◌, ◌≤◌, ◌&&◌, List, take}
+use Rattle.contexts.specs.Choice.{takes}
 use Rattle.contexts.specs.Table.{takes_of}
-use Rattle.occurrences.proofs.Seen.{stands-composite}
 use Rattle.occurrences.specs.Packed.{Notes}
 use Rattle.occurrences.specs.declared.Occurrence.{Occurrence}
-use Rattle.sequences.proofs.Arrays.{length_zip}
-use Rattle.sequences.proofs.Marks.{padded_end, padded-start}
 use Rattle.sequences.specs.Marks.{marked, padded}
-use Rattle.waiting_lists.proofs.Marks.{length_marks, marks_none}
-use Rattle.waiting_lists.proofs.Waits.{read_at, read-few, read_length}
-use Rattle.waiting_lists.specs.declared.WaitingList.{WaitingList}
 use Rattle.waiting_lists.specs.Lists.{Waits}
 use Rattle.waiting_lists.specs.Marks.{marks_of}
 use mathlib.Core.List.{zip_with}

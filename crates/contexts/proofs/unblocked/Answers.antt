@@ -1,18 +1,12 @@
 -- The marks before place i are those of the lefts that are free.
 use Rattle.contexts.proofs.unblocked.Invariants.{free}
-use Rattle.std.proofs.Common.{◌≡◌, ℕ, ◌-◌, ◌<◌, ◌≤◌, Bool, not, ◌&&◌, List, map, length, take, ◌∙◌, arith, rules}
+use Rattle.std.proofs.Common.{ℕ, ◌<◌, ◌≤◌, List, map, length, take, ◌∙◌, arith, rules}
 use Rattle.contexts.proofs.Steps.{tested_turn}
-use Rattle.contexts.specs.Choice.{absence_candidates, blocks}
+use Rattle.contexts.specs.Choice.{absence_candidates}
 use Rattle.occurrences.proofs.Packed.{stands-within}
-use Rattle.occurrences.specs.Occurrences.{is_before}
-use Rattle.occurrences.specs.Packed.{Notes, Stands}
-use Rattle.occurrences.specs.declared.Occurrence.{Occurrence}
 use Rattle.sequences.proofs.Marks.{padded_end, padded-start}
-use Rattle.sequences.specs.Marks.{padded}
-use Rattle.sequences.specs.Select.{some_passes}
 use Rattle.waiting_lists.proofs.Marks.{marks_none}
 use Rattle.waiting_lists.proofs.Waits.{read_at, read-bytes, read-few, read_length, read-place, read_small, waits-few}
-use Rattle.waiting_lists.specs.Lists.{Waits}
 use Rattle.waiting_lists.specs.Marks.{marks_of}
 use lib.ListN.{length-map}
 use Rattle.contexts.proofs.unblocked.Goals as goal

@@ -2,7 +2,7 @@
 use Rattle.contexts.proofs.Steps.{bars_earliest, bars_every, bars_latest}
 use Rattle.timestamps.specs.declared.Order.TheVariants.{Before, After}
 use Rattle.timestamps.specs.Comparison.{same_order}
-use Rattle.std.proofs.Common.{◌≡◌, sym, ◌∙◌, rules}
+use Rattle.std.proofs.Common.{◌≡◌, sym, ◌∙◌}
 use Rattle.contexts.proofs.word_bars.Goals as goal
 
 pub returns-then-rule-eq-LATEST : goal.returns-then-rule-eq-LATEST

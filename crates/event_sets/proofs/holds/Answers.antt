@@ -1,6 +1,5 @@
 -- `holds` meets its contract: the bit of the low word, of the high word, or none.
 use mathlib.Core.Path.{sym}
-use borrow.Author.Rules.{rules}
 use Rattle.event_sets.specs.Sets.{is_set}
 use Rattle.event_sets.proofs.Members.{has-low, has-high, has_beyond}
 use Rattle.event_sets.proofs.holds.Goals as goal

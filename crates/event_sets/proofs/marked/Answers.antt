@@ -1,6 +1,5 @@
 -- `marked` meets its contract: a bit of the low word, of the high word, or none.
 use mathlib.Core.Path.{sym}
-use borrow.Author.Rules.{rules}
 use Rattle.event_sets.proofs.Members.{marked-low, marked-high, marked_beyond}
 use Rattle.event_sets.proofs.marked.Goals as goal
 

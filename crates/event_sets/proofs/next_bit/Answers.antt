@@ -4,7 +4,6 @@ use Prim.Native.Nat.{◌/◌, ◌^◌}
 use native.Mathlib.Omega.{arith}
 use lib.Count.{trailing_le}
 use Rattle.event_sets.proofs.Walks.{bit_is, bit_beyond}
-use borrow.Author.Rules.{rules}
 use Rattle.event_sets.proofs.next_bit.Goals as goal
 
 pub returns-then-place-ge64 : goal.returns-then-place-ge64

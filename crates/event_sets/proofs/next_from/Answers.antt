@@ -3,7 +3,6 @@ use mathlib.Core.Path.{sym, ap, ◌∙◌}
 use Prim.Native.Nat.{◌+◌, ◌-◌}
 use native.Mathlib.Omega.{arith}
 use Rattle.event_sets.proofs.Walks.{bit_most, next-high, next-found, next_after}
-use borrow.Author.Rules.{rules}
 use Rattle.event_sets.proofs.next_from.Goals as goal
 
 pub overflow_add-result : goal.overflow_add-result

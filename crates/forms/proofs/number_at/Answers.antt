@@ -1,9 +1,9 @@
 -- `forms::number_at`: the invariant: the bytes passed make the number so far.
 use mathlib.Core.Path.{◌≡◌, refl, sym, ap, ◌∙◌}
-use Prim.Native.Nat.{◌+◌, ◌*◌, ◌-◌, ◌^◌, ◌≤◌, ◌<◌}
+use Prim.Native.Nat.{◌+◌, ◌*◌}
 use native.Mathlib.Omega.{arith}
 use lib.ListN.{get_or}
-use Rattle.forms.specs.Bytes.{value_of, value_at}
+use Rattle.forms.specs.Bytes.{value_of}
 use Rattle.forms.proofs.Numbers.{value-more, bound_more, bound_64}
 use borrow.Author.Rules.{rules}
 use Rattle.forms.proofs.number_at.Goals as goal

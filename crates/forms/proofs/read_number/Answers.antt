@@ -3,7 +3,6 @@ use mathlib.Core.Path.{sym, ap, ◌∙◌}
 use native.Mathlib.Omega.{arith}
 use Rattle.forms.specs.Sections.{within}
 use Rattle.forms.proofs.Pieces.{number_short, number_out, number_in}
-use borrow.Author.Rules.{rules}
 use Rattle.forms.proofs.read_number.Goals as goal
 
 pub returns-then-left-width : goal.returns-then-left-width

@@ -1,6 +1,5 @@
 -- The answer says what the run says.
 use Rattle.working.proofs.Answers.{run_answers}
-use borrow.Author.Rules.{rules}
 use Rattle.gateway.proofs.ended.Goals as goal
 
 pub returns : goal.returns

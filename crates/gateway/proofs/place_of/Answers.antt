@@ -1,6 +1,5 @@
 -- By the limit.
 use mathlib.Core.Path.{sym, ◌∙◌}
-use borrow.Author.Rules.{rules}
 use Rattle.gateway.proofs.place_of.Goals as goal
 
 pub returns-then-is_reached : goal.returns-then-is_reached

@@ -1,6 +1,5 @@
 -- Sixteen each, or counted.
 use Rattle.gateway.proofs.Seats.{sixteen}
-use borrow.Author.Rules.{rules}
 use Rattle.gateway.proofs.places_for.Goals as goal
 
 pub returns-then-count-ge64 : goal.returns-then-count-ge64

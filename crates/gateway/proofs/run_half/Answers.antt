@@ -1,7 +1,6 @@
 -- Both sizes are enough.
 use Rattle.detector.proofs.Running.{ready_in}
 use Rattle.gateway.proofs.Seats.{clear}
-use borrow.Author.Rules.{rules}
 use Rattle.gateway.proofs.run_half.Goals as goal
 
 pub run_in-requires : goal.run_in-requires

@@ -1,7 +1,6 @@
 -- The nodes are seated, with as many places as these want.
 use mathlib.Core.Path.{refl}
 use Rattle.gateway.proofs.Seats.{most, ready, ready_rows}
-use borrow.Author.Rules.{rules}
 use Rattle.gateway.proofs.run_in_rows.Goals as goal
 
 pub run_small-requires : goal.run_small-requires

@@ -1,7 +1,6 @@
 -- Both sizes are enough.
 use Rattle.detector.proofs.Running.{ready_in}
 use Rattle.gateway.proofs.Seats.{clear}
-use borrow.Author.Rules.{rules}
 use Rattle.gateway.proofs.run_large.Goals as goal
 
 pub run_half-requires : goal.run_half-requires

@@ -1,7 +1,6 @@
 -- What is lent is enough where `fits` says so.
 use Rattle.detector.proofs.Running.{ready_in}
 use Rattle.gateway.proofs.Seats.{clear}
-use borrow.Author.Rules.{rules}
 use Rattle.gateway.proofs.run_middle.Goals as goal
 
 pub run_in-requires : goal.run_in-requires

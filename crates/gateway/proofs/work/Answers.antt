@@ -6,7 +6,6 @@ use mathlib.Core.Path.{ap, sym}
 use native.Mathlib.Omega.{arith}
 use Rattle.gateway.specs.Steps.{PlanHeld}
 use Rattle.gateway.proofs.Working.{read_held}
-use borrow.Author.Rules.{rules}
 use Rattle.gateway.proofs.work.Goals as goal
 use Rattle.gateway.proofs.work.Lts as lts
 use Rattle.gateway.proofs.work.Tie as tie

@@ -5,14 +5,13 @@ use Rattle.plans.specs.Layout.{plan_clocks}
 use Rattle.plans.specs.Views.{answer_of}
 use Rattle.working.proofs.Answers.{answers_same}
 use Rattle.working.specs.Working.{turned_back}
-use borrow.Author.Tests.{eqb-true, not-false, not-true}
+use borrow.Author.Tests.{eqb-true}
 use lib.Dec.{eqb}
 use lib.ListN.{length-take}
 use lib.Seq.{length-take-le}
 use mathlib.Core.Bool.{true}
 use mathlib.Core.Path.{◌∙◌, ◌≡◌, ap, refl, sym}
 use native.Mathlib.Omega.{arith}
-use borrow.Author.Rules.{rules}
 use Rattle.gateway.proofs.work_under.Goals as goal
 
 pub returns-then-not-is_none : goal.returns-then-not-is_none

@@ -1,8 +1,6 @@
 -- Each stamp of the second at a place before k has one before it.
-use Rattle.std.proofs.Common.{◌≡◌, ℕ, ◌-◌, ◌<◌, ◌≤◌, true, sym, ◌∙◌, arith, rules}
-use Rattle.occurrences.proofs.Befores.{Both, before-each, before-not, has_at}
-use Rattle.occurrences.proofs.Steps.{next_place}
-use borrow.Author.Tests.{not-false, not-true}
+use Rattle.std.proofs.Common.{◌≡◌, ℕ, ◌-◌, ◌<◌, ◌≤◌, true}
+use Rattle.occurrences.proofs.Befores.{Both, has_at}
 use Rattle.occurrences.proofs.before.Given as goal
 
 abbrev pub invariant-loop-k : goal.invariant-loop-k

@@ -1,7 +1,7 @@
 -- The union of the events, and the join of the stamps.
 use Rattle.event_sets.specs.Sets.{union_of}
 use Rattle.occurrences.proofs.Joins.{combined_stands}
-use Rattle.std.proofs.Common.{◌∙◌, ap₂, rules}
+use Rattle.std.proofs.Common.{◌∙◌, ap₂}
 use Rattle.occurrences.proofs.combined.Goals as goal
 
 pub joined-requires : goal.joined-requires

@@ -1,6 +1,5 @@
 -- The shift and the remainder read the byte.
 use Rattle.occurrences.proofs.Bytes.{byte_read}
-use Rattle.std.proofs.Common.{rules}
 use Rattle.occurrences.proofs.event_at.Goals as goal
 
 pub returns : goal.returns

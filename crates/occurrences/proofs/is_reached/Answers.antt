@@ -1,6 +1,6 @@
 -- Where there is a timestamp, as `has_before` tells it.
 use Rattle.occurrences.specs.Steps.{is_reached}
-use Rattle.std.proofs.Common.{◌≡◌, get_or, rules, eq-eqb, ne_eqb}
+use Rattle.std.proofs.Common.{◌≡◌, get_or, eq-eqb, ne_eqb}
 use Rattle.occurrences.proofs.is_reached.Goals as goal
 
 pub returns-then-ticks-j-eq0 : goal.returns-then-ticks-j-eq0

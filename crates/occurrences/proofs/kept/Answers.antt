@@ -1,7 +1,7 @@
 -- By the two cases.
 use Rattle.occurrences.specs.Steps.{kept_of}
 use Rattle.timestamps.specs.Order.{clearly_earlier}
-use Rattle.std.proofs.Common.{sym, ◌∙◌, rules}
+use Rattle.std.proofs.Common.{sym, ◌∙◌}
 use Rattle.occurrences.proofs.kept.Goals as goal
 
 pub returns-then-clearly_earlier : goal.returns-then-clearly_earlier

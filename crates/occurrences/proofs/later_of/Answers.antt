@@ -1,6 +1,6 @@
 -- By the two cases.
 use Rattle.occurrences.specs.Steps.{later_of}
-use Rattle.std.proofs.Common.{sym, ◌∙◌, rules}
+use Rattle.std.proofs.Common.{sym, ◌∙◌}
 use Rattle.occurrences.proofs.later_of.Goals as goal
 
 pub returns-then-earlier : goal.returns-then-earlier

@@ -1,8 +1,6 @@
 -- The number so far is the lowest at the places before k.
-use Rattle.std.proofs.Common.{◌≡◌, ◌-◌, ◌≤◌, get_or, ap, ◌∙◌, arith, rules}
-use Rattle.occurrences.proofs.Steps.{lowest_start, lowest_turn}
+use Rattle.std.proofs.Common.{◌-◌, ◌≤◌}
 use Rattle.occurrences.specs.Steps.{Lowest, note_at}
-use lib.Pow.{low}
 use Rattle.occurrences.proofs.lowest_of_four.Given as goal
 
 abbrev pub invariant-loop-k : goal.invariant-loop-k

@@ -1,7 +1,7 @@
 -- Of the eight places; where the upper four have none, of the lower.
 use Rattle.occurrences.proofs.Bytes.{bytes-more, bytes-none, inside-first, inside-last, later_further, later-none}
 use Rattle.occurrences.proofs.Steps.{highest_level, highest-more}
-use Rattle.std.proofs.Common.{get_or, sym, ap, ◌∙◌, arith, rules}
+use Rattle.std.proofs.Common.{get_or, sym, ap, ◌∙◌, arith}
 use Rattle.occurrences.proofs.merged.Goals as goal
 
 pub merged_of_four-low-requires : goal.merged_of_four-low-requires

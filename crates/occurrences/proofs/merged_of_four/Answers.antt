@@ -1,9 +1,8 @@
 -- The bytes before k name the later ones, and h is the highest of these.
-use Rattle.std.proofs.Common.{◌≡◌, ◌-◌, ◌<◌, ◌≤◌, max, length, get_or, ap, ◌∙◌, arith, rules}
+use Rattle.std.proofs.Common.{◌≡◌, ◌<◌, max, length, get_or, ap, ◌∙◌, arith, rules}
 use Rattle.occurrences.proofs.Bytes.{bytes-start, bytes_turn}
 use Rattle.occurrences.proofs.Joins.{later_one}
 use Rattle.occurrences.proofs.Steps.{highest-start, highest_turn}
-use Rattle.occurrences.specs.Steps.{Bytes, Highest, later_at}
 use Rattle.occurrences.proofs.merged_of_four.Goals as goal
 
 pub loop-k-init : goal.loop-k-init

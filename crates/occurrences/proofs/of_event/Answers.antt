@@ -1,6 +1,5 @@
 -- One byte.
 use Rattle.occurrences.proofs.FileEvents.{event-stands}
-use Rattle.std.proofs.Common.{rules}
 use Rattle.occurrences.proofs.of_event.Goals as goal
 
 pub returns : goal.returns

@@ -1,5 +1,5 @@
 -- The byte above the zeros at the end, where nothing stands above it.
-use Rattle.std.proofs.Common.{arith, rules}
+use Rattle.std.proofs.Common.{arith}
 use Rattle.occurrences.proofs.Single.{few_zeros, only_byte}
 use Rattle.occurrences.proofs.only.Goals as goal
 

@@ -2,7 +2,7 @@
 use Rattle.occurrences.specs.Occurrences.{occurrence_order}
 use Rattle.occurrences.proofs.Befores.{before_clear}
 use Rattle.occurrences.proofs.Seen.{stands-composite}
-use Rattle.std.proofs.Common.{◌+◌, ◌<◌, sym, ◌∙◌, rules, ltb-true}
+use Rattle.std.proofs.Common.{◌+◌, ◌<◌, sym, ◌∙◌, ltb-true}
 use Rattle.timestamps.specs.Order.{clearly_earlier}
 use Rattle.timestamps.proofs.Words.{word_after, word_before}
 use Rattle.occurrences.proofs.order.Goals as goal

@@ -2,8 +2,7 @@
 use Rattle.occurrences.specs.Occurrences.{occurrence_order}
 use Rattle.occurrences.proofs.Seen.{stands-composite}
 use Rattle.timestamps.proofs.Words.{word_after, word_before, word_concurrent, word_incomparable}
-use borrow.Author.Tests.{not-false, not-true}
-use Rattle.std.proofs.Common.{sym, ◌∙◌, rules}
+use Rattle.std.proofs.Common.{sym, ◌∙◌}
 use Rattle.occurrences.proofs.order_by_place.Goals as goal
 
 pub returns-then-before : goal.returns-then-before

@@ -1,9 +1,8 @@
 -- The bytes before k name those kept.
-use Rattle.std.proofs.Common.{◌≡◌, ◌-◌, ◌<◌, ◌≤◌, ap, ◌∙◌, arith, rules}
+use Rattle.std.proofs.Common.{◌≡◌, ◌<◌, ap, ◌∙◌, arith, rules}
 use Rattle.occurrences.proofs.Bytes.{bytes-start, bytes_turn}
 use Rattle.occurrences.proofs.Joins.{kept_one}
-use Rattle.occurrences.specs.Packed.{byte_at}
-use Rattle.occurrences.specs.Steps.{Bytes, kept_of}
+use Rattle.occurrences.specs.Steps.{kept_of}
 use Rattle.occurrences.proofs.settled_of_four.Goals as goal
 
 pub loop-k-init : goal.loop-k-init

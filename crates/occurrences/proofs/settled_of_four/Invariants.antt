@@ -1,7 +1,5 @@
 -- The bytes before k name those kept.
-use Rattle.std.proofs.Common.{◌≡◌, ◌-◌, ◌<◌, ◌≤◌, ap, ◌∙◌, arith, rules}
-use Rattle.occurrences.proofs.Bytes.{bytes-start, bytes_turn}
-use Rattle.occurrences.proofs.Joins.{kept_one}
+use Rattle.std.proofs.Common.{◌-◌, ◌≤◌}
 use Rattle.occurrences.specs.Packed.{byte_at}
 use Rattle.occurrences.specs.Steps.{Bytes, kept_of}
 use Rattle.occurrences.proofs.settled_of_four.Given as goal

@@ -1,5 +1,5 @@
 -- No stamp of the first at a place before k has one of the second before it.
-use Rattle.std.proofs.Common.{◌≡◌, ℕ, ◌-◌, ◌<◌, ◌≤◌, false, sym, ◌∙◌, arith, rules}
+use Rattle.std.proofs.Common.{◌≡◌, ◌<◌, sym, ◌∙◌, arith, rules}
 use Rattle.occurrences.proofs.Befores.{Both, reached_at, weakly-each, weakly-not}
 use Rattle.occurrences.proofs.Steps.{next_place}
 use Rattle.occurrences.proofs.weakly_by_place.Goals as goal

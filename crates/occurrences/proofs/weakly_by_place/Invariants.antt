@@ -1,7 +1,6 @@
 -- No stamp of the first at a place before k has one of the second before it.
-use Rattle.std.proofs.Common.{◌≡◌, ℕ, ◌-◌, ◌<◌, ◌≤◌, false, sym, ◌∙◌, arith, rules}
-use Rattle.occurrences.proofs.Befores.{Both, reached_at, weakly-each, weakly-not}
-use Rattle.occurrences.proofs.Steps.{next_place}
+use Rattle.std.proofs.Common.{◌≡◌, ℕ, ◌-◌, ◌<◌, ◌≤◌, false}
+use Rattle.occurrences.proofs.Befores.{Both, reached_at}
 use Rattle.occurrences.proofs.weakly_by_place.Given as goal
 
 abbrev pub invariant-loop-k : goal.invariant-loop-k

@@ -1,6 +1,6 @@
 -- The tick of the event that the byte names.
 use Rattle.occurrences.proofs.Bytes.{word_of}
-use Rattle.std.proofs.Common.{get_or, sym, ap, ◌∙◌, rules}
+use Rattle.std.proofs.Common.{get_or, sym, ap, ◌∙◌}
 use Rattle.occurrences.proofs.word_at.Goals as goal
 
 pub returns : goal.returns

@@ -1,11 +1,9 @@
 -- By the three cases.
 use mathlib.Core.Path.{sym, ◌∙◌}
 use native.Mathlib.Omega.{arith}
-use borrow.Author.Tests.{not-true, not-false}
 use Rattle.timestamps.specs.Order.{clocks_of}
 use Rattle.timestamps.proofs.Groupings.{valid-place}
 use Rattle.open_calls.proofs.Adding.{clear_told, late_told, put_told}
-use borrow.Author.Rules.{rules}
 use Rattle.open_calls.proofs.add.Goals as goal
 
 pub bounds-join-k : goal.bounds-join-k

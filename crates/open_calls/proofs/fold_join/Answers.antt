@@ -1,7 +1,6 @@
 -- Before the first entry nothing is judged, and nothing is noted.
 use Rattle.std.proofs.Common.{rules}
 use Rattle.timestamps.specs.Order.{clocks_of}
-use Rattle.open_calls.specs.Steps.{joining_of, nothing_judged}
 use Rattle.open_calls.proofs.Joins.{joins-none}
 use Rattle.open_calls.proofs.fold_join.Goals as goal
 

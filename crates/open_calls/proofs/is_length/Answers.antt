@@ -1,6 +1,6 @@
 -- Both limits.
 use Rattle.open_calls.specs.Answers.{valid_length}
-use borrow.Author.Tests.{le-leb, lt-leb}
+use borrow.Author.Tests.{le-leb}
 use native.Mathlib.Omega.{arith}
 use Prim.Native.Nat.{◌≤◌}
 use Rattle.open_calls.proofs.is_length.Goals as goal

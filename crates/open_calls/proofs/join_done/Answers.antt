@@ -1,7 +1,6 @@
 -- By the verdict.
 use mathlib.Core.Path.{sym, ◌∙◌}
 use Rattle.open_calls.proofs.Joins.{joined_answer, refused_answer}
-use borrow.Author.Rules.{rules}
 use Rattle.open_calls.proofs.join_done.Goals as goal
 
 pub returns-then-is_refusal : goal.returns-then-is_refusal

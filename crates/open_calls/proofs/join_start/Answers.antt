@@ -1,6 +1,5 @@
 -- Field by field.
 use Rattle.open_calls.specs.Steps.{join_start}
-use borrow.Author.Rules.{rules}
 use Rattle.open_calls.proofs.join_start.Goals as goal
 
 pub returns : goal.returns

@@ -1,7 +1,6 @@
 -- By the verdict so far, then the entry.
 use mathlib.Core.Path.{sym, ◌∙◌}
 use Rattle.open_calls.proofs.Joins.{step_bad, step_good, step_refused}
-use borrow.Author.Rules.{rules}
 use Rattle.open_calls.proofs.join_step.Goals as goal
 
 pub add-requires : goal.add-requires

@@ -1,8 +1,6 @@
 -- The ratio, then the length.
 use Rattle.open_calls.specs.Steps.{join_verdict}
-use mathlib.Core.Path.{sym, ◌∙◌, ap}
-use borrow.Author.Tests.{not-true, not-false}
-use borrow.Author.Rules.{rules}
+use mathlib.Core.Path.{sym, ◌∙◌}
 use Rattle.open_calls.proofs.join_verdict.Goals as goal
 
 pub returns-then-not-valid_ratio : goal.returns-then-not-valid_ratio

@@ -1,7 +1,6 @@
 -- By the two cases.
 use Rattle.open_calls.specs.Notes.{left_by}
 use mathlib.Core.Path.{sym, ◌∙◌}
-use borrow.Author.Rules.{rules}
 use Rattle.open_calls.proofs.leave.Goals as goal
 
 pub returns-then-is_clear : goal.returns-then-is_clear

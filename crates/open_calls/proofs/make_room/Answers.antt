@@ -1,7 +1,6 @@
 -- By the two cases.
 use mathlib.Core.Path.{sym, ◌∙◌}
 use Rattle.open_calls.proofs.Clearing.{room-raised, room-same}
-use borrow.Author.Rules.{rules}
 use Rattle.open_calls.proofs.make_room.Goals as goal
 
 pub returns-then-earlier : goal.returns-then-earlier

@@ -1,8 +1,5 @@
 -- The places before k are cleared.
-use mathlib.Core.Path.{◌≡◌}
-use Prim.Native.Nat.{◌≤◌, ◌-◌}
-use lib.ListN.{length}
-use Rattle.open_calls.proofs.Clearing.{ClearedTo, cleared_end, cleared-start, cleared_turn}
+use Rattle.open_calls.proofs.Clearing.{cleared_end, cleared-start, cleared_turn}
 use borrow.Author.Rules.{rules}
 use Rattle.open_calls.proofs.raise_to.Goals as goal
 

@@ -2,8 +2,7 @@
 use mathlib.Core.Path.{◌≡◌}
 use Prim.Native.Nat.{◌≤◌, ◌-◌}
 use lib.ListN.{length}
-use Rattle.open_calls.proofs.Clearing.{ClearedTo, cleared_end, cleared-start, cleared_turn}
-use borrow.Author.Rules.{rules}
+use Rattle.open_calls.proofs.Clearing.{ClearedTo}
 use Rattle.open_calls.proofs.raise_to.Given as goal
 
 abbrev pub invariant-loop-k : goal.invariant-loop-k

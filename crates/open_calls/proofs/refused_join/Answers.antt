@@ -1,6 +1,5 @@
 -- The number of the verdict.
 use Rattle.open_calls.specs.Answers.{refused_join}
-use borrow.Author.Rules.{rules}
 use Rattle.open_calls.proofs.refused_join.Goals as goal
 
 pub returns : goal.returns

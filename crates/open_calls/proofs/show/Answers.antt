@@ -1,10 +1,8 @@
 -- The places before k are shown.
-use mathlib.Core.Path.{◌≡◌, ap, ◌∙◌}
-use Prim.Native.Nat.{◌≤◌, ◌-◌}
+use mathlib.Core.Path.{ap, ◌∙◌}
 use lib.ListN.{replicate}
-use Rattle.timestamps.specs.Order.{blank}
-use Rattle.timestamps.proofs.Steps.{filled_to, filled_start, filled_turn, filled_end}
-use Rattle.open_calls.specs.Notes.{note_at, shown_from, shown_note}
+use Rattle.timestamps.proofs.Steps.{filled_start, filled_turn, filled_end}
+use Rattle.open_calls.specs.Notes.{shown_from}
 use borrow.Author.Rules.{rules}
 use Rattle.open_calls.proofs.show.Goals as goal
 

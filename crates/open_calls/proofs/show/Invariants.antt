@@ -1,11 +1,9 @@
 -- The places before k are shown.
-use mathlib.Core.Path.{◌≡◌, ap, ◌∙◌}
+use mathlib.Core.Path.{◌≡◌}
 use Prim.Native.Nat.{◌≤◌, ◌-◌}
-use lib.ListN.{replicate}
 use Rattle.timestamps.specs.Order.{blank}
-use Rattle.timestamps.proofs.Steps.{filled_to, filled_start, filled_turn, filled_end}
-use Rattle.open_calls.specs.Notes.{note_at, shown_from, shown_note}
-use borrow.Author.Rules.{rules}
+use Rattle.timestamps.proofs.Steps.{filled_to}
+use Rattle.open_calls.specs.Notes.{note_at, shown_note}
 use Rattle.open_calls.proofs.show.Given as goal
 
 abbrev pub invariant-loop-k : goal.invariant-loop-k

@@ -1,7 +1,6 @@
 -- By the two cases.
 use Rattle.open_calls.specs.Notes.{shown_note}
 use borrow.Author.Tests.{le-ltb, lt-ltb}
-use borrow.Author.Rules.{rules}
 use Rattle.open_calls.proofs.show_note.Goals as goal
 
 pub returns-then-note-gt0 : goal.returns-then-note-gt0

@@ -17,7 +17,6 @@ use Rattle.operators.specs.Views.{Half, HoldsTurned, Takes, own_part}
 use Rattle.plans.specs.declared.Node.{Node}
 use Rattle.waiting_lists.specs.Lists.{Waits}
 use Rattle.waiting_lists.specs.Waiting.{appended_to}
-use borrow.Author.Rules.{rules}
 use lib.Dec.{eqb}
 use lib.ListN.{drop, length, take, length-drop}
 use lib.Seq.{length-take-le}

@@ -23,8 +23,6 @@ use Rattle.waiting_lists.proofs.Waits.{waits-length}
 use Rattle.waiting_lists.specs.Lists.{Waits}
 use Rattle.waiting_lists.specs.Marks.{marks_of}
 use Rattle.waiting_lists.specs.Waiting.{appended_to}
-use borrow.Author.Rules.{rules}
-use borrow.Author.Tests.{not-false, not-true}
 use lib.ListN.{length}
 use mathlib.Core.List.{List}
 use mathlib.Core.Path.{◌∙◌, ◌≡◌, ap, refl, subst, sym}

@@ -1,5 +1,4 @@
 -- It accumulates, or by the row.
-use borrow.Author.Rules.{rules}
 use Rattle.operators.proofs.carry_out.Goals as goal
 
 pub returns-then-turn-eq-ACCUMULATE : goal.returns-then-turn-eq-ACCUMULATE

@@ -1,10 +1,9 @@
 -- Those before place i came to the node, and no limit was met.
-use Prim.Native.Nat.{ℕ, ◌+◌, ◌-◌, ◌<◌, ◌≤◌}
+use Prim.Native.Nat.{ℕ, ◌+◌, ◌<◌}
 use Rattle.arrivals.specs.Meetings.{Arrival, setting_of}
 use Rattle.detections.proofs.Writing.{beyond_none, beyond_then}
-use Rattle.detections.specs.Writing.{Beyond}
 use Rattle.emissions.proofs.Limits.{unreached}
-use Rattle.emissions.specs.Emissions.{bytes_in, findings_in, reached}
+use Rattle.emissions.specs.Emissions.{reached}
 use Rattle.emissions.specs.declared.Limit.TheVariants.{None}
 use Rattle.occurrences.proofs.Packed.{stand-at, stand-length}
 use Rattle.occurrences.specs.Packed.{Notes, Stand, Stands}

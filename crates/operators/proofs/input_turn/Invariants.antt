@@ -1,28 +1,18 @@
 -- Those before place i came to the node, and no limit was met.
-use Prim.Native.Nat.{ℕ, ◌+◌, ◌-◌, ◌<◌, ◌≤◌}
-use Rattle.arrivals.specs.Meetings.{Arrival, setting_of}
-use Rattle.detections.proofs.Writing.{beyond_none, beyond_then}
+use Prim.Native.Nat.{ℕ, ◌-◌, ◌≤◌}
+use Rattle.arrivals.specs.Meetings.{setting_of}
 use Rattle.detections.specs.Writing.{Beyond}
-use Rattle.emissions.proofs.Limits.{unreached}
-use Rattle.emissions.specs.Emissions.{bytes_in, findings_in, reached}
+use Rattle.emissions.specs.Emissions.{bytes_in, findings_in}
 use Rattle.emissions.specs.declared.Limit.TheVariants.{None}
-use Rattle.occurrences.proofs.Packed.{stand-at, stand-length}
-use Rattle.occurrences.specs.Packed.{Notes, Stand, Stands}
+use Rattle.occurrences.specs.Packed.{Notes, Stand}
 use Rattle.occurrences.specs.declared.Occurrence.{Occurrence}
-use Rattle.operators.proofs.Sides.{held_of, holds_as}
-use Rattle.operators.proofs.Spares.{part_long, spare_on}
-use Rattle.operators.proofs.Turns.{first-few, in_order-at, in_order-length, no_arrival, turn_ends, turn_stops}
 use Rattle.operators.specs.Turns.{Turned, arrives, in_order}
-use Rattle.operators.specs.Views.{HoldsTurned, Takes, own_part}
+use Rattle.operators.specs.Views.{HoldsTurned, Takes}
 use Rattle.plans.specs.declared.Node.{Node}
-use Rattle.sequences.proofs.Loops.{fold-before, fold-none}
 use Rattle.sequences.specs.Loops.{fold}
-use Rattle.waiting_lists.proofs.Waits.{waits-length}
-use borrow.Author.Rules.{rules}
-use lib.ListN.{get_or, length, take}
-use mathlib.Core.List.{List, []}
-use mathlib.Core.Path.{◌∙◌, ◌≡◌, ap, refl, subst, sym}
-use native.Mathlib.Omega.{arith}
+use lib.ListN.{length, take}
+use mathlib.Core.List.{List}
+use mathlib.Core.Path.{◌≡◌}
 use Rattle.operators.proofs.input_turn.Given as goal
 
 abbrev pub invariant-loop-i : goal.invariant-loop-i

@@ -16,7 +16,6 @@ use Rattle.operators.specs.Turns.{Turned, sides_of, turned_of}
 use Rattle.operators.specs.Views.{Halves, HoldsTurned}
 use Rattle.waiting_lists.specs.Lists.{Waits}
 use Rattle.waiting_lists.specs.Marks.{marks_of}
-use borrow.Author.Rules.{rules}
 use lib.ListN.{length}
 use mathlib.Core.List.{List}
 use mathlib.Core.Path.{◌∙◌, ◌≡◌, ap, refl, subst}

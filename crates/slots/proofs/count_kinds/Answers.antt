@@ -1,9 +1,7 @@
 -- There are places enough for the events before i.
 use mathlib.Core.Path.{◌≡◌, refl}
-use Prim.Native.Nat.{◌≤◌, ◌-◌}
 use native.Mathlib.Omega.{arith}
-use lib.ListN.{length, length-set}
-use Rattle.progress.specs.Seats.{Enough}
+use lib.ListN.{length-set}
 use Rattle.slots.proofs.Rooms.{enough-start, enough_turn}
 use borrow.Author.Rules.{rules}
 use Rattle.slots.proofs.count_kinds.Goals as goal

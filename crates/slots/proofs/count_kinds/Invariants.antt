@@ -1,11 +1,8 @@
 -- There are places enough for the events before i.
-use mathlib.Core.Path.{◌≡◌, refl}
+use mathlib.Core.Path.{◌≡◌}
 use Prim.Native.Nat.{◌≤◌, ◌-◌}
-use native.Mathlib.Omega.{arith}
-use lib.ListN.{length, length-set}
+use lib.ListN.{length}
 use Rattle.progress.specs.Seats.{Enough}
-use Rattle.slots.proofs.Rooms.{enough-start, enough_turn}
-use borrow.Author.Rules.{rules}
 use Rattle.slots.proofs.count_kinds.Given as goal
 
 abbrev pub invariant-loop-i : goal.invariant-loop-i

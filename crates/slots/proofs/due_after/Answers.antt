@@ -1,7 +1,6 @@
 -- By whether anything was made.
 use borrow.Author.Tests.{le-ltb, lt-ltb}
 use Rattle.progress.specs.Seats.{due_after}
-use borrow.Author.Rules.{rules}
 use Rattle.slots.proofs.due_after.Goals as goal
 
 pub returns-then-made-gt0 : goal.returns-then-made-gt0

@@ -1,7 +1,6 @@
 -- A count of at most 64.
 use native.Mathlib.Omega.{arith}
 use lib.Count.{trailing_le}
-use borrow.Author.Rules.{rules}
 use Rattle.slots.proofs.next_due.Goals as goal
 
 pub overflow_cast-result : goal.overflow_cast-result

@@ -2,8 +2,6 @@
 use mathlib.Core.Path.{sym, ◌∙◌}
 use native.Mathlib.Omega.{arith}
 use Rattle.slots.proofs.Rooms.{room-kind, room-node, room-none, room-third}
-use borrow.Author.Tests.{not-true, not-false}
-use borrow.Author.Rules.{rules}
 use Rattle.slots.proofs.room_of.Goals as goal
 
 pub returns-then-input-ge2 : goal.returns-then-input-ge2

@@ -1,14 +1,10 @@
 -- The inputs before i are seated, whatever the other nodes are.
-use mathlib.Core.List.{List}
 use mathlib.Core.Path.{◌≡◌, ap, ◌∙◌}
-use Prim.Native.Nat.{◌≤◌, ◌<◌, ◌+◌, ◌-◌, ◌*◌}
+use Prim.Native.Nat.{◌<◌, ◌+◌, ◌*◌}
 use native.Mathlib.Omega.{arith}
-use lib.ListN.{get_or, length, length-set}
-use Rattle.plans.specs.declared.Node.{Node}
-use Rattle.plans.specs.Limits.{no_node}
-use Rattle.plans.specs.Views.{node_of, slot_at}
+use lib.ListN.{get_or, length-set}
+use Rattle.plans.specs.Views.{slot_at}
 use Rattle.plans.proofs.Slots.{slot_same}
-use Rattle.slots.specs.Steps.{Filling}
 use Rattle.slots.proofs.Fillings.{filling_next, filling_turn}
 use Rattle.slots.proofs.Made.{node-input}
 use Rattle.slots.proofs.Takers.{one_shl}

@@ -1,12 +1,10 @@
 -- The nodes before k have their context, and where what they make begins.
 use mathlib.Core.Path.{◌≡◌}
-use Prim.Native.Nat.{◌≤◌, ◌-◌}
 use native.Mathlib.Omega.{arith}
-use Rattle.slots.proofs.Made.{Making, first_nodes, making_all, making_most, making_start, making_turn, node_at, nodes-size}
+use Rattle.slots.proofs.Made.{making_all, making_most, making_start, making_turn, node_at, nodes-size}
 use Rattle.slots.proofs.Rooms.{made-room-fits}
 use borrow.Author.Rules.{rules}
 use Rattle.slots.proofs.seat_made.Goals as goal
-use Rattle.slots.proofs.seat_made.Tie as tie
 
 pub loop-k-init : goal.loop-k-init
 loop-k-init c = (search rules, making_start _ _ _ c.requires.1)

@@ -1,10 +1,6 @@
 -- The nodes before k have their context, and where what they make begins.
-use mathlib.Core.Path.{◌≡◌}
 use Prim.Native.Nat.{◌≤◌, ◌-◌}
-use native.Mathlib.Omega.{arith}
-use Rattle.slots.proofs.Made.{Making, first_nodes, making_all, making_most, making_start, making_turn, node_at, nodes-size}
-use Rattle.slots.proofs.Rooms.{made-room-fits}
-use borrow.Author.Rules.{rules}
+use Rattle.slots.proofs.Made.{Making, first_nodes}
 use Rattle.slots.proofs.seat_made.Given as goal
 
 abbrev pub invariant-loop-k : goal.invariant-loop-k

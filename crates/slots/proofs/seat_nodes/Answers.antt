@@ -1,14 +1,11 @@
 -- The inputs of the nodes before k are seated.
 use mathlib.Core.Path.{◌≡◌}
-use Prim.Native.Nat.{◌≤◌, ◌-◌}
 use native.Mathlib.Omega.{arith}
-use Rattle.slots.specs.Steps.{Filling}
 use Rattle.slots.proofs.Fillings.{filling_all, filling_most, filling_start}
-use Rattle.slots.proofs.Made.{first_nodes, node_at, nodes-size}
+use Rattle.slots.proofs.Made.{node_at, nodes-size}
 use Rattle.plans.proofs.Slots.{slotted-at}
 use borrow.Author.Rules.{rules}
 use Rattle.slots.proofs.seat_nodes.Goals as goal
-use Rattle.slots.proofs.seat_nodes.Tie as tie
 
 pub loop-k-init : goal.loop-k-init
 loop-k-init c = (search rules, rw (c.requires.2, c.requires.3) (filling_start _ _))

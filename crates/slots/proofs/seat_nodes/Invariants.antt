@@ -1,12 +1,7 @@
 -- The inputs of the nodes before k are seated.
-use mathlib.Core.Path.{◌≡◌}
 use Prim.Native.Nat.{◌≤◌, ◌-◌}
-use native.Mathlib.Omega.{arith}
 use Rattle.slots.specs.Steps.{Filling}
-use Rattle.slots.proofs.Fillings.{filling_all, filling_most, filling_start}
-use Rattle.slots.proofs.Made.{first_nodes, node_at, nodes-size}
-use Rattle.plans.proofs.Slots.{slotted-at}
-use borrow.Author.Rules.{rules}
+use Rattle.slots.proofs.Made.{first_nodes}
 use Rattle.slots.proofs.seat_nodes.Given as goal
 
 abbrev pub invariant-loop-k : goal.invariant-loop-k

@@ -1,7 +1,6 @@
 -- One more stands at the place that it takes, and the list is kept.
 use mathlib.Core.Path.{◌≡◌, sym, ap, subst, ◌∙◌}
 use mathlib.Core.List.{[], ◌∷◌}
-use borrow.Author.Rules.{rules}
 use lib.ListN.{set}
 use Rattle.waiting_lists.specs.Lists.{Appends, Waits}
 use Rattle.waiting_lists.specs.Waiting.{appended_to}

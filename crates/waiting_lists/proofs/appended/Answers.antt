@@ -1,5 +1,4 @@
 -- The place after those that wait, or there is no room.
-use borrow.Author.Rules.{rules}
 use Rattle.waiting_lists.proofs.Appends.{appends_full, appends_room}
 use Rattle.waiting_lists.proofs.appended.Goals as goal
 

@@ -1,6 +1,6 @@
 -- The invariant: of those looked at the ones that stay close up behind the others.
 use mathlib.Core.Path.{◌≡◌, sym, subst, ◌∙◌}
-use Prim.Native.Nat.{◌+◌, ◌-◌, ◌≤◌}
+use Prim.Native.Nat.{◌+◌, ◌-◌}
 use native.Mathlib.Omega.{arith}
 use borrow.Author.Rules.{rules}
 use Rattle.waiting_lists.specs.Marks.{marks_of}

@@ -1,11 +1,7 @@
 -- The invariant: of those looked at the ones that stay close up behind the others.
-use mathlib.Core.Path.{◌≡◌, sym, subst, ◌∙◌}
-use Prim.Native.Nat.{◌+◌, ◌-◌, ◌≤◌}
-use native.Mathlib.Omega.{arith}
-use borrow.Author.Rules.{rules}
+use Prim.Native.Nat.{◌≤◌}
 use Rattle.waiting_lists.specs.Marks.{marks_of}
-use Rattle.waiting_lists.proofs.Marks.{length_marks}
-use Rattle.waiting_lists.proofs.Removals.{Closing, closing_end, closing_gone, closing_kept, closing_start}
+use Rattle.waiting_lists.proofs.Removals.{Closing}
 use Rattle.waiting_lists.proofs.kept.Given as goal
 
 abbrev pub invariant-loop-i : goal.invariant-loop-i

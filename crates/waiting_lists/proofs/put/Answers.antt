@@ -1,6 +1,5 @@
 -- The place is one, or nothing changes.
 use mathlib.Core.Path.{sym}
-use borrow.Author.Rules.{rules}
 use lib.Seq.{set_out}
 use Rattle.waiting_lists.proofs.put.Goals as goal
 

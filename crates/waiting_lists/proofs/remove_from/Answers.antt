@@ -1,6 +1,5 @@
 -- Where none is marked nothing changes; else the list without those marked is kept.
 use mathlib.Core.Path.{sym, subst}
-use borrow.Author.Rules.{rules}
 use native.Mathlib.Omega.{arith}
 use Rattle.sequences.specs.Marks.{unmarked}
 use Rattle.waiting_lists.specs.Lists.{Removes, Waits}

@@ -1,6 +1,5 @@
 -- A number other than 0.
-use Rattle.open_calls.specs.Answers.{refusal, number_of}
-use borrow.Author.Rules.{rules}
+use Rattle.open_calls.specs.Answers.{refusal}
 use Rattle.open_calls.proofs.Verdict.is_refusal.Goals as goal
 
 pub returns : goal.returns

@@ -1,6 +1,5 @@
 -- Case by case.
 use Rattle.open_calls.specs.Answers.{number_of}
-use borrow.Author.Rules.{rules}
 use Rattle.open_calls.proofs.Verdict.number.Goals as goal
 
 pub returns-in-Accepted : goal.returns-in-Accepted

@@ -1,7 +1,6 @@
 -- One less than the other, where there is one less.
 use Rattle.timestamps.specs.Order.{clearly_earlier}
 use Rattle.timestamps.proofs.Stamps.{clear_below, clear_none}
-use borrow.Author.Rules.{rules}
 use Rattle.timestamps.proofs.GlobalTick.clearly_earlier.Goals as goal
 
 pub returns-then-other-eq0 : goal.returns-then-other-eq0

@@ -1,7 +1,6 @@
 -- The quotient; by 0 it is 0.
 use native.Mathlib.Nat.{div-zero}
 use mathlib.Core.Path.{refl}
-use borrow.Author.Rules.{rules}
 use Rattle.timestamps.proofs.LocalTick.global.Goals as goal
 
 pub returns-then-ratio-eq0 : goal.returns-then-ratio-eq0

@@ -1,6 +1,5 @@
 -- By their numbers.
 use Rattle.timestamps.specs.Comparison.{same_order}
-use borrow.Author.Rules.{rules}
 use Rattle.timestamps.proofs.Order.is.Goals as goal
 
 pub returns : goal.returns

@@ -1,6 +1,5 @@
 -- Case by case.
 use Rattle.timestamps.specs.Comparison.{order_number}
-use borrow.Author.Rules.{rules}
 use Rattle.timestamps.proofs.Order.number.Goals as goal
 
 pub returns-in-Incomparable : goal.returns-in-Incomparable
