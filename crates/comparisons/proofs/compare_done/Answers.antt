@@ -9,5 +9,5 @@ returns-then-is_refusal c = simp (sym c.is_refusal.ensures ∙ c.if-is_refusal.t
 
 pub returns-else-is_refusal : goal.returns-else-is_refusal
 unfolding compare_done
-returns-else-is_refusal c = let o = c in
-    simp (sym o.is_refusal.ensures ∙ o.if-is_refusal.false, c.number.ensures, c.relation_of-r.ensures)
+returns-else-is_refusal c =
+    simp (sym c.is_refusal.ensures ∙ c.if-is_refusal.false, c.number.ensures, c.relation_of-r.ensures)

@@ -12,10 +12,10 @@ returns-then-is_refusal c = simp (sym c.is_refusal.ensures ∙ c.if-is_refusal.t
 
 pub returns-then-valid : goal.returns-then-valid
 unfolding gather_step
-returns-then-valid c = let v = c in
-    simp (sym v.is_refusal.ensures ∙ v.if-is_refusal.false, sym v.valid.ensures ∙ c.if-valid.true, c.gather.ensures)
+returns-then-valid c =
+    simp (sym c.is_refusal.ensures ∙ c.if-is_refusal.false, sym c.valid.ensures ∙ c.if-valid.true, c.gather.ensures)
 
 pub returns-else-valid : goal.returns-else-valid
 unfolding gather_step
-returns-else-valid c = let v = c in
-    simp (sym v.is_refusal.ensures ∙ v.if-is_refusal.false, sym v.valid.ensures ∙ c.if-valid.false, c.judged_as-else-valid.ensures)
+returns-else-valid c =
+    simp (sym c.is_refusal.ensures ∙ c.if-is_refusal.false, sym c.valid.ensures ∙ c.if-valid.false, c.judged_as-else-valid.ensures)

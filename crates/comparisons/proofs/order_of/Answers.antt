@@ -17,10 +17,10 @@ returns-then-r-3 c = rw (c.if-r.false, c.if-r-2.false, c.if-r-3.true)
 
 pub returns-then-each_has_earlier : goal.returns-then-each_has_earlier
 unfolding order_noted
-returns-then-each_has_earlier c = let o = c in
-    rw (o.if-r.false, o.if-r-2.false, o.if-r-3.false, sym c.each_has_earlier.ensures ∙ c.if-each_has_earlier.true)
+returns-then-each_has_earlier c =
+    rw (c.if-r.false, c.if-r-2.false, c.if-r-3.false, sym c.each_has_earlier.ensures ∙ c.if-each_has_earlier.true)
 
 pub returns-else-each_has_earlier : goal.returns-else-each_has_earlier
 unfolding order_noted
-returns-else-each_has_earlier c = let o = c in
-    rw (o.if-r.false, o.if-r-2.false, o.if-r-3.false, sym c.each_has_earlier.ensures ∙ c.if-each_has_earlier.false)
+returns-else-each_has_earlier c =
+    rw (c.if-r.false, c.if-r-2.false, c.if-r-3.false, sym c.each_has_earlier.ensures ∙ c.if-each_has_earlier.false)

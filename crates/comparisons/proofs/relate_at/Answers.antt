@@ -9,6 +9,6 @@ unfolding related_at
 returns-then-note-eq0 c = rw (eq-eqb _ _ c.if-note-eq0.true)
 
 pub returns : goal.returns
-returns c = let b = c in let m = b in
-    related_told _ _ _ _ _ _ _ _ _ _ m.if-note-eq0.false m.around_of-m.ensures b.both-neither.ensures
+returns c =
+    related_told _ _ _ _ _ _ _ _ _ _ c.if-note-eq0.false c.around_of-m.ensures c.both-neither.ensures
     c.both-before.ensures c.both-concurrent.ensures c.both-weakly.ensures
