@@ -4,11 +4,12 @@ use mathlib.Core.Path.{◌≡◌, ap}
 use Prim.Native.Nat.{◌<◌}
 use native.Mathlib.Omega.{arith}
 use lib.ListN.{length}
-use Rattle.detections.specs.Views.{finding_of}
+use Rattle.detections.specs.Views.{finding_of, written_bytes}
+use Rattle.detections.specs.Writing.{Wrote}
 use Rattle.detections.proofs.Sizes.{beyond_finding}
 use Rattle.detections.proofs.Writing.{beyond_none}
 use Rattle.occurrences.specs.Packed.{occurrence_of}
-use Rattle.emissions.specs.Emissions.{made_in}
+use Rattle.emissions.specs.Emissions.{bytes_in, made_in}
 use Rattle.emissions.proofs.Emitting.{emits_ninth, emits_no_room, emits_go, has_room, no_room}
 use borrow.Author.Rules.{rules}
 use Rattle.emissions.proofs.emit_one.Goals as goal
@@ -43,8 +44,9 @@ returns c =
     let eight : length a.made.now ≡ 8 = search rules in
     let below : made_in a.tally.now < 8 = omega (arith, eight, c.if-most-n.false) in
     let size = has_room _ _ _ c.requires.2.0 (c.fits.ensures a.loggers.now a.place) (ap not c.if-not-fits.false) in
-    let found = finding_of a.loggers.now a.place (occurrence_of a.ticks.now a.o.now).latest (occurrence_of a.ticks.now a.o.now).events in
+    let w : Wrote a.out.now (bytes_in a.tally.now) (written_bytes a.ticks.now a.loggers.now a.place a.o.now) c.write-next.result c.write-next.new.out = c.write-next.ensures in
+    let found = occurrence_of a.ticks.now a.o.now in
     record {
-      emits = λ globals t s x h o. emits_go t _ _ h o eight below c.requires.2.0 size c.write-next.ensures;
-      beyond = beyond_finding found size c.requires.2.1 c.write-next.ensures;
+      emits = λ globals t s x h o. emits_go t _ _ h o eight below c.requires.2.0 size w;
+      beyond = beyond_finding (finding_of a.loggers.now a.place found.latest found.events) size c.requires.2.1 w;
     }
