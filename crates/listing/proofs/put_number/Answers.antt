@@ -1,7 +1,7 @@
 -- The mark, and then the digits, of which a number of 64 bits has at most 20.
 use Rattle.listing.proofs.Digits.{few_digits}
 use Rattle.listing.proofs.Pieces.{wrote_number}
-use Rattle.std.proofs.Common.{◌≡◌, ◌∙◌, ◌≤◌, ap, arith, length, rules}
+use Rattle.std.proofs.Common.{◌∙◌, ◌≤◌, ap, arith, length}
 use Rattle.listing.proofs.put_number.Goals as goal
 
 pub returns : goal.returns

@@ -1,6 +1,5 @@
 -- The copy goes into the part of the page from the place on.
 use Rattle.listing.proofs.Pieces.{wrote_mid}
-use Rattle.std.proofs.Common.{rules}
 use Rattle.listing.proofs.put_text.Goals as goal
 
 pub returns : goal.returns
