@@ -10,7 +10,7 @@ use Rattle.sequences.specs.Members.{◌is_in◌}
 use Rattle.detections.specs.Findings.{Finding, finding_bytes, findings_bytes}
 use Rattle.readings.specs.Reader.{WithinLimits}
 use Rattle.readings.proofs.Theorems.{laid_out_is_read}
-use Rattle.listing.specs.Text.{line_text, lines_text, lines_at}
+use Rattle.listing.specs.Text.{lines_text, lines_at}
 
 -- findings within the limits, one after the other from a place on
 pub lines_of_findings : (fs : List Finding) (b y : List ℕ) (at : ℕ) → ((f : Finding) → f is_in fs → WithinLimits f) → at ≤ length b → drop at b ≡ findings_bytes fs ++ y

@@ -1,3 +1,5 @@
+#![tactic(auto)]
+
 // The C interface: include/rathunxa.h declares these functions. Each only passes its arguments on.
 ghost use Rattle.std.specs.Prelude.{◌≡◌};
 ghost use Rattle.working.specs.Latest.{LatestWritten};
