@@ -140,6 +140,9 @@ def falling_together(names, words):
 
 
 def main():
+    if sys.argv[1:] not in ([], ["--list"]):
+        print(__doc__)
+        raise SystemExit(2)
     names = declared()
     words = mapping(names)
     if "--list" in sys.argv:
