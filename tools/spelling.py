@@ -23,6 +23,12 @@ STD = set("length take drop map filter replicate sum get_or append reverse zip_w
 DOCUMENTS = ["README.md", "docs/*.md", "docs/changes/*.md", "mutants/*.md", "examples/README.md", "fuzz/README.md"]
 # names that fall together otherwise, or hide a parameter
 BY_HAND = {
+    "accepted-is-laid-out": "accepted_is_laid_out",
+    "worked-is-laid-out": "worked_is_laid_out",
+    "read-is-laid-out": "read_is_laid_out",
+    "waits-within-places": "waits_within_places",
+    "not-before-itself": "not_before_itself",
+    "made-at-0": "made_at_0",
     "weaklyBefore": "stamps_weakly_before",
     "bit-or": "bit-bit_or",
     "bit-and": "bit-bit_and",

@@ -16,7 +16,7 @@ use Rattle.timestamps.proofs.Maxima.{maxima_in, maxima_of, maxima_reach}
 use Rattle.timestamps.specs.Order.{Clocks}
 use Rattle.occurrences.specs.declared.Occurrence.{Occurrence}
 use Rattle.occurrences.specs.Occurrences.{is_before}
-use Rattle.occurrences.proofs.Orders.{before_carries, not-before_itself}
+use Rattle.occurrences.proofs.Orders.{before_carries, not_before_itself}
 use Rattle.contexts.specs.Choice.{and_candidates, chosen, removed_of, removes, seq_candidates, taken_of, takes}
 use Rattle.contexts.specs.Table.{Taken, latest, earliest, every, Removed, untaken, taken, all, Context, recent}
 
@@ -58,13 +58,13 @@ module _ (clocks : Clocks) (l m : List Occurrence) (w : Occurrence) {s : Timesta
   pub latest-others : takes latest clocks (l ++ w ∷ m) w ≡ not (some_passes (λ c. is_before clocks w c) (l ++ m))
   unfolding takes some_passes
   latest-others =
-      let here : some_passes (λ c. is_before clocks w c) (w ∷ m) ≡ some_passes (λ c. is_before clocks w c) m = rw (not-before_itself clocks w some) in
+      let here : some_passes (λ c. is_before clocks w c) (w ∷ m) ≡ some_passes (λ c. is_before clocks w c) m = rw (not_before_itself clocks w some) in
       rw (any_append (λ c. is_before clocks w c) l (w ∷ m), any_append (λ c. is_before clocks w c) l m, here)
 
   pub earliest_others : takes earliest clocks (l ++ w ∷ m) w ≡ not (some_passes (λ c. is_before clocks c w) (l ++ m))
   unfolding takes some_passes
   earliest_others =
-      let here : some_passes (λ c. is_before clocks c w) (w ∷ m) ≡ some_passes (λ c. is_before clocks c w) m = rw (not-before_itself clocks w some) in
+      let here : some_passes (λ c. is_before clocks c w) (w ∷ m) ≡ some_passes (λ c. is_before clocks c w) m = rw (not_before_itself clocks w some) in
       rw (any_append (λ c. is_before clocks c w) l (w ∷ m), any_append (λ c. is_before clocks c w) l m, here)
 
 -- ---- where there is a candidate one is taken, if each has a stamp, as in every run
@@ -105,10 +105,10 @@ pub some-taken : (t : Taken) (clocks : Clocks) (waiting : List Occurrence) (cand
     → ((v : Occurrence) → v is_in marked waiting candidates → Stamped v) → (v : Occurrence) × (v is_in marked waiting (taken_of t clocks waiting candidates))
 some-taken latest clocks waiting candidates m h =
     rw (latest-are clocks waiting candidates)
-    (some_greatest (is_before clocks) (λ w e. not-before_itself clocks w e.1) (before_carries clocks) (marked waiting candidates) m h)
+    (some_greatest (is_before clocks) (λ w e. not_before_itself clocks w e.1) (before_carries clocks) (marked waiting candidates) m h)
 some-taken earliest clocks waiting candidates m h =
     rw (earliest_are clocks waiting candidates)
-    (some_greatest (λ a b. is_before clocks b a) (λ w e. not-before_itself clocks w e.1) (λ a b c p q. before_carries clocks c b a q p) (marked waiting candidates) m h)
+    (some_greatest (λ a b. is_before clocks b a) (λ w e. not_before_itself clocks w e.1) (λ a b c p q. before_carries clocks c b a q p) (marked waiting candidates) m h)
 some-taken every clocks waiting candidates {w} m h = rw (every_are clocks waiting candidates) (w, m)
 
 -- ---- place by place

@@ -11,7 +11,7 @@ use Rattle.timestamps.specs.Composite.{IsComposite, members}
 use Rattle.timestamps.specs.Order.{Clocks}
 use Rattle.occurrences.specs.declared.Occurrence.{Occurrence}
 use Rattle.occurrences.specs.Occurrences.{no_occurrence}
-use Rattle.occurrences.proofs.Orders.{not-before_itself}
+use Rattle.occurrences.proofs.Orders.{not_before_itself}
 use Rattle.waiting_lists.specs.Marks.{marks_of}
 use Rattle.waiting_lists.proofs.Marks.{length_marks, marks_and}
 use Rattle.contexts.specs.Choice.{and_candidates, taken_of, takes}
@@ -21,8 +21,8 @@ use Rattle.contexts.proofs.Steps.{all_taken}
 -- where it is the only one, it keeps itself from nothing
 takes_itself : (t : Taken) (clocks : Clocks) (w : Occurrence) → IsComposite clocks (members w.latest) → takes t clocks (w ∷ []) w ≡ true
 unfolding takes some_passes
-takes_itself latest clocks w c = rw (not-before_itself clocks w c.some.1)
-takes_itself earliest clocks w c = rw (not-before_itself clocks w c.some.1)
+takes_itself latest clocks w c = rw (not_before_itself clocks w c.some.1)
+takes_itself earliest clocks w c = rw (not_before_itself clocks w c.some.1)
 takes_itself every clocks w c = refl
 
 -- two tests that agree where there is a mark

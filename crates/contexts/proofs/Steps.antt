@@ -22,7 +22,7 @@ use Rattle.timestamps.specs.Order.{Clocks}
 use Rattle.occurrences.specs.declared.Occurrence.{Occurrence}
 use Rattle.occurrences.specs.Occurrences.{is_before, no_occurrence, occurrence_order}
 use Rattle.occurrences.specs.Steps.{LowestOf}
-use Rattle.occurrences.proofs.Orders.{after_turned, not-before_itself}
+use Rattle.occurrences.proofs.Orders.{after_turned, not_before_itself}
 use Rattle.occurrences.proofs.Steps.{next_place}
 use Rattle.waiting_lists.specs.declared.WaitingList.{WaitingList}
 use Rattle.waiting_lists.specs.Lists.{list_of, place_in}
@@ -158,8 +158,8 @@ module _ (l : List Occurrence) (m : List Bool) (i : ℕ) (in_l : i < length l) (
 -- ---- one candidate against itself: with a stamp it does not keep itself from being taken
 pub bars_itself : (t : Taken) (clocks : Clocks) (w : Occurrence) → IsComposite clocks (members w.latest) → bars_of t clocks w w ≡ false
 unfolding bars_of
-bars_itself latest clocks w c = not-before_itself clocks w c.some.1
-bars_itself earliest clocks w c = not-before_itself clocks w c.some.1
+bars_itself latest clocks w c = not_before_itself clocks w c.some.1
+bars_itself earliest clocks w c = not_before_itself clocks w c.some.1
 bars_itself every clocks w c = refl
 
 -- so the others decide

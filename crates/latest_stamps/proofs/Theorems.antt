@@ -27,7 +27,7 @@ use Rattle.passages.specs.declared.Event.{Event}
 use Rattle.passages.specs.declared.EventEntry.{EventEntry}
 use Rattle.passages.specs.Events.{no_event, passage_events}
 use Rattle.passages.specs.Reader.{accepted, read_passage}
-use Rattle.passages.proofs.Theorems.{accepted-count, accepted-is-laid_out, accepted-placed}
+use Rattle.passages.proofs.Theorems.{accepted-count, accepted_is_laid_out, accepted-placed}
 use Rattle.progress.specs.Progress.{Progress, numbers_by_place, run_of, stamp_of}
 use Rattle.latest_stamps.specs.Written.{All, Kept, Shown}
 use Rattle.latest_stamps.proofs.Runs.{run_exact}
@@ -91,7 +91,7 @@ module _ (p : Plan) (b : List ℕ) (es : List EventEntry) (ok : PlanOk p) (B : B
   pub accepted-exact : (room i : ℕ) → i ≤ length es
       → Kept (Exact (plan_clocks p) (map stamp_of (passage_events p b))) (numbers_by_place p.loggers) (length p.nodes) i (run_of room p (take i (passage_events p b)))
   accepted-exact room i k =
-      run_exact room p (passage_events p b) accepted_placeable (omega (arith, accepted-count p b es B h, (accepted-is-laid_out p b es B h).1.most))
+      run_exact room p (passage_events p b) accepted_placeable (omega (arith, accepted-count p b es B h, (accepted_is_laid_out p b es B h).1.most))
       i (omega (arith, accepted-count p b es B h))
 
   -- and so of every such run: all that waits, was made or was written has a composite stamp

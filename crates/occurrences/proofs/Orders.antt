@@ -46,8 +46,8 @@ module _ (clocks : Clocks) where
   after_turned a b c = is_after clocks (members a.latest) (members b.latest) c ∙ sym (before_all b a)
 
   -- an occurrence with at least one timestamp is not before itself
-  pub not-before_itself : (o : Occurrence) {s : Timestamp} → s is_in members o.latest → is_before clocks o o ≡ false
-  not-before_itself o m = before_all o o ∙ false_of_not_true _ (all_before_itself (members o.latest) m)
+  pub not_before_itself : (o : Occurrence) {s : Timestamp} → s is_in members o.latest → is_before clocks o o ≡ false
+  not_before_itself o m = before_all o o ∙ false_of_not_true _ (all_before_itself (members o.latest) m)
 
   -- before carries on through a middle occurrence
   pub before_carries : (a b c : Occurrence) → is_before clocks a b ≡ true → is_before clocks b c ≡ true → is_before clocks a c ≡ true

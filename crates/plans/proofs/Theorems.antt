@@ -90,9 +90,9 @@ single [] h = absurd (omega arith)
 single (x ∷ []) h = refl
 single (x ∷ y ∷ l) h = absurd (omega arith)
 
-pub accepted-is-laid_out : (b : List ℕ) (p : Plan) → Bytes b → read_plan b ≡ accepted p → (b ≡ plan_bytes p) × PlanOk p
+pub accepted_is_laid_out : (b : List ℕ) (p : Plan) → Bytes b → read_plan b ≡ accepted p → (b ≡ plan_bytes p) × PlanOk p
 unfolding plan_at plan_bytes
-accepted-is-laid_out b p B h =
+accepted_is_laid_out b p B h =
     let (m, r) = plan-got b p h in
     let t = then-got (section clocks b 0) (after_clocks b) p m r in
     let u = then-got (section loggers b t.1) (after_loggers b t.0) p m t.3 in
@@ -166,4 +166,4 @@ accepted_of b z =
     (one_answer b)
 
 pub accepted_ok : (b : List ℕ) → Bytes b → (read_plan b).number ≡ 0 → PlanOk (read_plan b).plan
-accepted_ok b B z = (accepted-is-laid_out b (read_plan b).plan B (accepted_of b z)).1
+accepted_ok b B z = (accepted_is_laid_out b (read_plan b).plan B (accepted_of b z)).1

@@ -198,9 +198,9 @@ module _ (b : List ℕ) (at : ℕ) where
   after_node : ℕ → ℕ → Read Finding
   after_node node at₁ = then (section stamp_section b at₁) (after_stamps node)
 
-  pub read-is-laid_out : (f : Finding) (next : ℕ) → Bytes b → read_finding b at ≡ found f next → (take next b ≡ take at b ++ finding_bytes f) × WithinLimits f
+  pub read_is_laid_out : (f : Finding) (next : ℕ) → Bytes b → read_finding b at ≡ found f next → (take next b ≡ take at b ++ finding_bytes f) × WithinLimits f
   unfolding finding_at after_stamps after_node
-  read-is-laid_out f next B h =
+  read_is_laid_out f next B h =
       let (node, at₁, n, k) = then-got (piece (number 2) 1 (λ node. 0) b at) after_node f next (read-got b at f next h) in
       let (ss, at₂, s, m) = then-got (section stamp_section b at₁) (after_stamps node) f next k in
       let (es, at₃, t, o) = then-got (section event_section b at₂) (λ es at₃. got (record { node = node; stamps = ss; events = es }) at₃) f next m in

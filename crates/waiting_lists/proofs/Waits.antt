@@ -24,8 +24,8 @@ module _ {ticks globals : List ℕ} (t : Notes ticks globals) (w : List (List �
   pub waits-few : length l ≤ 16
   waits-few = omega (arith, waits-length, h.placed.few, h.placed.most)
 
-  pub waits-within_places : length l < length w
-  waits-within_places = omega (arith, waits-length, h.placed.few, h.some)
+  pub waits_within_places : length l < length w
+  waits_within_places = omega (arith, waits-length, h.placed.few, h.some)
 
   pub waits-place : (i : ℕ) → i < length l → place_in (list_of w).order i + 1 < length w
   waits-place i k = let f = h.placed.few in omega (arith, h.placed.inside i (omega (arith, waits-length, k, f)))

@@ -29,7 +29,7 @@ use Rattle.passages.specs.Events.{no_event, passage_events, placed, place_in}
 use Rattle.passages.specs.Limits.{EventOk, no_entry}
 use Rattle.passages.specs.Reader.{accepted, read_passage}
 use Rattle.passages.proofs.Places.{member_place}
-use Rattle.passages.proofs.Theorems.{accepted-count, accepted-events, accepted-is-laid_out}
+use Rattle.passages.proofs.Theorems.{accepted-count, accepted-events, accepted_is_laid_out}
 use Rattle.detections.specs.declared.Stamp.{Stamp}
 use Rattle.detections.specs.Findings.{Finding, StampFits}
 use Rattle.detections.specs.Views.{finding_of, written}
@@ -74,7 +74,7 @@ stamps_in p passage = map stamp_of (passage_events p passage)
 
 module _ (p : Plan) (passage : List ℕ) (es : List EventEntry) (ok : PlanOk p) (B : Bytes passage) (h : read_passage p passage ≡ accepted es) where
   entry_ok : (j : ℕ) → j < length es → EventOk p (get_or es j no_entry)
-  entry_ok j k = (accepted-is-laid_out p passage es B h).1.each j k
+  entry_ok j k = (accepted_is_laid_out p passage es B h).1.each j k
 
   stamp-at : (j : ℕ) → j < length es → get_or (stamps_in p passage) j blank_stamp ≡ stamp_of (placed p.kinds p.loggers (get_or es j no_entry))
   stamp-at j k =

@@ -18,7 +18,7 @@ use Rattle.plans.specs.Layout.{Plan, plan_bytes}
 use Rattle.plans.specs.Limits.{PlanOk}
 use Rattle.plans.specs.Layout.{plan_clocks}
 use Rattle.plans.specs.Reader.{PlanAnswer, read_plan, accepted as accepted_plan, refused as refused_plan}
-use Rattle.plans.proofs.Theorems.{accepted-is-laid_out, laid_out_is_accepted as plan-accepted, one_answer as one-plan-answer}
+use Rattle.plans.proofs.Theorems.{accepted_is_laid_out, laid_out_is_accepted as plan-accepted, one_answer as one-plan-answer}
 use Rattle.plans.proofs.First.{first-bytes as plan-first}
 use Rattle.passages.specs.declared.EventEntry.{EventEntry}
 use Rattle.passages.specs.Events.{passage_events, placed}
@@ -27,7 +27,7 @@ use Rattle.passages.specs.Limits.{PassageOk}
 use Rattle.passages.specs.Reader.{PassageAnswer, read_passage, accepted, refused}
 use Rattle.passages.proofs.Entries.{event_laws}
 use Rattle.passages.proofs.First.{first-bytes as passage-first}
-use Rattle.passages.proofs.Theorems.{accepted-count, accepted-events, accepted-is-laid_out as passage-is-laid-out, laid_out_is_accepted as passage-accepted, laid_out_is_bytes, one_answer as one-passage-answer}
+use Rattle.passages.proofs.Theorems.{accepted-count, accepted-events, accepted_is_laid_out as passage-is-laid-out, laid_out_is_accepted as passage-accepted, laid_out_is_bytes, one_answer as one-passage-answer}
 use Rattle.forms.specs.Bytes.{Bytes}
 use Rattle.forms.proofs.Layouts.{length-section}
 use Rattle.occurrences.specs.Latest.{Exact}
@@ -82,9 +82,9 @@ laid_out_is_worked p es room ok fine =
     ∙ ap (λ l. end_of (run_of room p l)) (accepted-events p (passage_bytes es) es (laid_out_is_bytes p es ok fine) f)
 
 -- and no other two are worked: with 0, or with a limit's number, both are such bytes
-pub worked-is-laid_out : (plan passage : List ℕ) (room : ℕ) → Bytes plan → Bytes passage
+pub worked_is_laid_out : (plan passage : List ℕ) (room : ℕ) → Bytes plan → Bytes passage
     → ((worked plan passage room).number ≡ 0) ⊎ ((31 ≤ (worked plan passage room).number) × ((worked plan passage room).number ≤ 33)) → LaidOut plan passage
-worked-is-laid_out plan passage room B C n = go (every_pair_ends plan passage room)
+worked_is_laid_out plan passage room B C n = go (every_pair_ends plan passage room)
   where
     no_fault : (number place : ℕ) → ((1 ≤ number) × (number ≤ 26)) ⊎ (number ≡ 41) → worked plan passage room ≡ turned_back number place → ⊥
     no_fault number place l e =
@@ -95,7 +95,7 @@ worked-is-laid_out plan passage room B C n = go (every_pair_ends plan passage ro
     go (plan_fault number place l e) = absurd (no_fault number place (⊎_elim (λ k. inl (k.0, omega (arith, k))) (λ k. inr k) l) e)
     go (passage_fault p a number place l m e) = absurd (no_fault number place (inl (omega (arith, l), m)) e)
     go (works p a es b e) =
-        let x = accepted-is-laid_out plan p B a in
+        let x = accepted_is_laid_out plan p B a in
         let y = passage-is-laid-out p passage es C b in
         record { read = p; entries = es; plan_ok = x.1; passage_ok = y.1; plan-bytes = x.0; passage-bytes = y.0 }
 
@@ -151,7 +151,7 @@ module _ (plan passage : List ℕ) (room : ℕ) (B : Bytes plan) (C : Bytes pass
 
   module _ (p : Plan) (e : read_plan plan ≡ accepted_plan p) (es : List EventEntry) (f : read_passage p passage ≡ accepted es) where
     plan_ok : PlanOk p
-    plan_ok = (accepted-is-laid_out plan p B e).1
+    plan_ok = (accepted_is_laid_out plan p B e).1
 
     kept : Kept (Exact (plan_clocks p) (map stamp_of (passage_events p passage))) (numbers_by_place p.loggers) (length p.nodes) (length es)
         (run_of room p (passage_events p passage))
