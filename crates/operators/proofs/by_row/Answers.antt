@@ -1,5 +1,6 @@
 -- By the row, and a limit ends the work, it is gone, or it waits.
 use Prim.Native.Nat.{ℕ, ◌*◌, ◌≤◌, ◌<◌}
+use mathlib.Core.Bool.{false}
 use Rattle.arrivals.proofs.Carried.{by_row, row_gone, row_joins, row_stopped}
 use Rattle.arrivals.specs.Meetings.{Arrival, Setting, Sides, action_from, carried_out, meeting_of, setting_of}
 use Rattle.arrivals.specs.Views.{Looks}
@@ -127,6 +128,9 @@ Gone = lts.After-remove_from tie.the-claims reads.Pre reads.Post tie.handed_clau
 abbrev told_of : Gone → Told
 told_of c = c.before.before.before
 
+unmet : (c : Gone) → (told_of c).is_reached.result ≡ false
+unmet c = c.if-is_reached.false
+
 pub offset_bounds-lists-from : goal.offset_bounds-lists-from
 offset_bounds-lists-from c = let st = st-of c.before.before in omega (arith, (halves_of st).1.up, (halves_of st).1.within, small st)
 
@@ -177,12 +181,12 @@ returns-then-not-waits c =
     let told = go in
     let st = st-of told.before.before.before in
     let turn = st.args.turn in
-    let none = unreached (emit-of told.before.before.before).emit_made-end.result (sym told.is_reached.ensures ∙ go.if-is_reached.false) in record {
+    let none = unreached (emit-of told.before.before.before).emit_made-end.result (sym told.is_reached.ensures ∙ unmet go) in record {
       acts = (λ t node x a looks keeps apart takes i p h chose.
           subst (HoldsTurned t _ _ _ _ _ _)
           (done told.before.before.before t node x a looks keeps apart takes i p h chose _
           (row_gone (set-of told.before.before.before t node x a looks keeps apart takes i p h chose) turn.place (row_of turn.context) (mine st t x h) (others st t x h) x.emit a _ _ _ chose.are chose.taken looks keeps apart
-          (marks_of st.args.choice.removed) chose.removed (reached_then told.before.before.before t node x a looks keeps apart takes i p h chose ∙ go.if-is_reached.false) (sym waits.waits.ensures ∙ c.if-not-waits.true)))
+          (marks_of st.args.choice.removed) chose.removed (reached_then told.before.before.before t node x a looks keeps apart takes i p h chose ∙ unmet go) (sym waits.waits.ensures ∙ c.if-not-waits.true)))
           (turned_of_lem t turn.input turn.split _ _ _ (held-1 gone t x h) (emits_as t (emits_then told.before.before.before t node x a looks keeps apart takes i p h chose) None none)));
       beyond = (emit-of told.before.before.before).emit_made-end.ensures.beyond;
     }
@@ -235,7 +239,7 @@ returns c =
     let told = go in
     let st = st-of told.before.before.before in
     let turn = st.args.turn in
-    let none = unreached (emit-of told.before.before.before).emit_made-end.result (sym told.is_reached.ensures ∙ go.if-is_reached.false) in record {
+    let none = unreached (emit-of told.before.before.before).emit_made-end.result (sym told.is_reached.ensures ∙ unmet go) in record {
       acts = (λ t node x a looks keeps apart takes i p h chose.
           let l = mine st t x h in
           let rest = unmarked (others st t x h) (marks_of st.args.choice.removed) in
@@ -246,7 +250,7 @@ returns c =
           (done told.before.before.before t node x a looks keeps apart takes i p h chose _
           (appended-is l rest (then-of told.before.before.before t node x a looks keeps apart takes i p h chose) a.occurrence
           ∙ row_joins (set-of told.before.before.before t node x a looks keeps apart takes i p h chose) turn.place (row_of turn.context) l (others st t x h) x.emit a _ _ _ chose.are chose.taken looks keeps apart
-          (marks_of st.args.choice.removed) chose.removed (reached_then told.before.before.before t node x a looks keeps apart takes i p h chose ∙ go.if-is_reached.false) (sym waits.waits.ensures ∙ yes.if-not-waits.false)))
+          (marks_of st.args.choice.removed) chose.removed (reached_then told.before.before.before t node x a looks keeps apart takes i p h chose ∙ unmet go) (sym waits.waits.ensures ∙ yes.if-not-waits.false)))
           (turned_of_lem t turn.input turn.split _ _ _ then (appended_emits t _ l _ e w.1)));
       beyond = (emit-of told.before.before.before).emit_made-end.ensures.beyond;
     }
