@@ -1,4 +1,4 @@
-# Everything that is built goes below target/.
+# What is built goes below target/, and what rt makes of a crate below crates/NAME/out/.
 CASES ?= 200000
 FILES ?= 100000
 SEED ?= 1
@@ -9,7 +9,7 @@ REPEATS ?= 1
 SECONDS ?= 60
 SHARE ?= 1
 
-LIBRARY := target/staticlib/librathunxa.a
+LIBRARY := crates/rathunxa/out/librathunxa.a
 HOST := target/host/rathunxa-host
 D1 := examples/d1/plan examples/d1/passage
 SOURCES := crates.txt $(shell find crates -name '*.rt' -o -name '*.antt')
@@ -40,8 +40,7 @@ test:
 	.ci/run
 
 listing:
-	rt check listing
-	target/bin/listing $(D1)
+	cd crates/listing && rt run -- $(abspath $(D1))
 
 host: $(HOST)
 
@@ -76,4 +75,4 @@ $(HOST): host/rathunxa_host.c include/rathunxa.h $(LIBRARY)
 	gcc -std=c11 -O2 -Wall -Wextra -Wpedantic -Werror -Iinclude $< $(LIBRARY) -o $@
 
 $(LIBRARY): $(SOURCES)
-	rt staticlib rathunxa
+	cd crates/rathunxa && rt lib
