@@ -12,7 +12,7 @@ SHARE ?= 1
 LIBRARY := crates/rathunxa/out/librathunxa.a
 HOST := target/host/rathunxa-host
 D1 := examples/d1/plan examples/d1/passage
-SOURCES := crates.txt $(shell find crates -name '*.rt' -o -name '*.antt')
+SOURCES := crates.txt $(shell find crates -name out -prune -o \( -name '*.rt' -o -name '*.antt' \) -print)
 CARGO_FLAGS := --quiet --release --offline --locked --manifest-path compare/Cargo.toml
 CARGO_RUN := CARGO_TARGET_DIR=target/cargo cargo run $(CARGO_FLAGS)
 PROFILE := target/profile/callgrind.out
