@@ -23,6 +23,8 @@ STD = set("length take drop map filter replicate sum get_or append reverse zip_w
 DOCUMENTS = ["README.md", "docs/*.md", "docs/changes/*.md", "mutants/*.md", "examples/README.md", "fuzz/README.md"]
 # names that fall together otherwise, or hide a parameter
 BY_HAND = {
+    "get_d_map": "get_or_map",
+    "get_d_zip": "get_or_zip",
     "accepted-is-laid-out": "accepted_is_laid_out",
     "worked-is-laid-out": "worked_is_laid_out",
     "read-is-laid-out": "read_is_laid_out",

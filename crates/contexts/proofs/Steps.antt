@@ -10,8 +10,8 @@ use Rattle.sequences.specs.Choice.{pick}
 use Rattle.sequences.specs.Loops.{fold}
 use Rattle.sequences.specs.Marks.{marked, padded}
 use Rattle.sequences.specs.Select.{some_passes}
-use Rattle.sequences.proofs.Arrays.{get_d_zip, length_zip}
-use Rattle.sequences.proofs.Parts.{get_d_map}
+use Rattle.sequences.proofs.Arrays.{get_or_zip, length_zip}
+use Rattle.sequences.proofs.Parts.{get_or_map}
 use Rattle.sequences.proofs.Marks.{any_marked_no, any_marked_yes, fold-marked, padded-start}
 use Rattle.sequences.proofs.Select.{any_none}
 use Rattle.timestamps.specs.declared.Order.{Order}
@@ -124,18 +124,18 @@ module _ (mark : Bool) (code : ℕ) (clocks : Clocks) (candidates : List Occurre
   taken_unbarred r e = rw (not-false mark on, e) (takes_unbarred (takes_of code) clocks candidates w)
 
 -- ---- marks that a loop fills, for 16 places
-module _ (l : List Occurrence) (m : List Bool) (i : ℕ) (in_List : i < length l) (few : length l ≤ 16) where
+module _ (l : List Occurrence) (m : List Bool) (i : ℕ) (in_list : i < length l) (few : length l ≤ 16) where
   -- a test of each
   pub tested_turn : (p : Occurrence → Bool) (r : List Bool) (v : Bool) → m ≡ padded 16 (take i (map p l)) → v ≡ p (get_or l i no_occurrence) → r ≡ pick v (set m i true) m
       → r ≡ padded 16 (take (i + 1) (map p l))
-  tested_turn p r v e f g = marks_turn (map p l) m r i v (omega (arith, length-map l p)) (omega (arith, length-map l p)) e (f ∙ sym (get_d_map p l i no_occurrence false in_List)) g
+  tested_turn p r v e f g = marks_turn (map p l) m r i v (omega (arith, length-map l p)) (omega (arith, length-map l p)) e (f ∙ sym (get_or_map p l i no_occurrence false in_list)) g
 
   -- a test of each with its mark
   pub zipped_turn : (f : Occurrence → Bool → Bool) (marks r : List Bool) (mark v : Bool) → length marks ≡ 16 → m ≡ padded 16 (take i (zip_with f l marks))
       → mark ≡ get_or marks i false → v ≡ f (get_or l i no_occurrence) mark → r ≡ pick v (set m i true) m → r ≡ padded 16 (take (i + 1) (zip_with f l marks))
   zipped_turn f marks r mark v h e is g t =
       let k : length (zip_with f l marks) ≡ length l = length_zip f l marks (omega arith) in
-      marks_turn (zip_with f l marks) m r i v (omega arith) (omega arith) e (g ∙ ap (f (get_or l i no_occurrence)) is ∙ sym (get_d_zip f l marks i no_occurrence false false in_List (omega arith))) t
+      marks_turn (zip_with f l marks) m r i v (omega arith) (omega arith) e (g ∙ ap (f (get_or l i no_occurrence)) is ∙ sym (get_or_zip f l marks i no_occurrence false false in_list (omega arith))) t
 
 -- ---- a loop over the places of a list
 module _ (l : List Occurrence) (m : List Bool) (i : ℕ) (in_l : i < length l) (in-m : i < length m) where

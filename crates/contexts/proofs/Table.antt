@@ -2,7 +2,7 @@
 use Rattle.std.proofs.Common.{◌≡◌, ℕ, ◌+◌, ◌-◌, ◌%◌, ◌^◌, ◌<◌, ◌≤◌, List, [], ◌∷◌, map, get_or, sym, refl, ap, ◌∙◌, arith}
 use native.Mathlib.Decide.{dec_lt}
 use lib.ListN.{get_or-eq_default}
-use Rattle.sequences.proofs.Parts.{get_d_map}
+use Rattle.sequences.proofs.Parts.{get_or_map}
 use Rattle.contexts.specs.declared.Row.{Row}
 use Rattle.contexts.specs.Table.{recent, table, row_of, takes_of, finds_of, removes_of, afterwards_of, context_of}
 
@@ -29,7 +29,7 @@ rows_say = refl
 
 -- so a row of codes says what the row at its place says
 pub row_at : (context k : ℕ) (d : Row) → (k < 4) × (get_or table k recent ≡ row_of context) → context_of (get_or rows k d) ≡ row_of context
-row_at context k d (h, e) = sym (get_d_map context_of rows k d recent h) ∙ ap (λ t. get_or t k recent) rows_say ∙ e
+row_at context k d (h, e) = sym (get_or_map context_of rows k d recent h) ∙ ap (λ t. get_or t k recent) rows_say ∙ e
 
 -- ---- the place of a context's row
 pub place_in_lem : (context k : ℕ) → (k + 1) % 2 ^ 64 ≡ context → k < 4 → (k < 4) × (get_or table k recent ≡ row_of context)

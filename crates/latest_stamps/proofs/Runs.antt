@@ -14,7 +14,7 @@ use Rattle.sequences.specs.Loops.{fold, loop}
 use Rattle.sequences.specs.Members.{◌is_in◌}
 use Rattle.sequences.proofs.Booleans.{either_way, never_both}
 use Rattle.sequences.proofs.Members.{map_of}
-use Rattle.sequences.proofs.Parts.{get_d_map}
+use Rattle.sequences.proofs.Parts.{get_or_map}
 use Rattle.timestamps.specs.Order.{blank as blank_stamp}
 use Rattle.timestamps.proofs.Join.{Placeable}
 use Rattle.occurrences.specs.declared.Occurrence.{Occurrence}
@@ -180,4 +180,4 @@ run_exact room plan events small few i within =
         let m : j < length (map stamp_of events) = omega (arith, length-map events stamp_of) in
         let n : j < 128 = omega arith in
         let z : 0 + j ≡ j = omega arith in
-        rw (z, get_or-take i events j no_event k, ← get_d_map stamp_of events j no_event blank_stamp l) (exact-event (plan_clocks plan) (map stamp_of events) small j n m)
+        rw (z, get_or-take i events j no_event k, ← get_or_map stamp_of events j no_event blank_stamp l) (exact-event (plan_clocks plan) (map stamp_of events) small j n m)

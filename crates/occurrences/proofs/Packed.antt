@@ -4,7 +4,7 @@ use mathlib.Core.List.Memᴰ
 use mathlib.Core.List.{map-append}
 use lib.ListN.{length-map}
 use Rattle.sequences.proofs.Members.{get_or_in}
-use Rattle.sequences.proofs.Parts.{get_d_map}
+use Rattle.sequences.proofs.Parts.{get_or_map}
 use Rattle.occurrences.specs.declared.Occurrence.{Occurrence}
 use Rattle.occurrences.specs.Occurrences.{no_occurrence}
 use Rattle.occurrences.specs.Packed.{Notes, Sound, Stand, Stands, Within, occurrence_of}
@@ -27,7 +27,7 @@ module _ {ticks globals : List ℕ} (t : Notes ticks globals) where
   -- what stands at a place
   pub stand-at : (ps : List (List ℕ)) (l : List Occurrence) (i : ℕ) → Stand t ps l → i < length ps → Stands t (get_or ps i []) (get_or l i no_occurrence)
   stand-at ps l i h k = record {
-    same = sym (get_d_map (occurrence_of ticks) ps i [] no_occurrence k) ∙ ap (λ m. get_or m i no_occurrence) h.same;
+    same = sym (get_or_map (occurrence_of ticks) ps i [] no_occurrence k) ∙ ap (λ m. get_or m i no_occurrence) h.same;
     sound = h.sound (get_or ps i []) (get_or_in ps i [] k);
   }
 

@@ -5,7 +5,7 @@ use mathlib.Core.Bool.{false}
 use Prim.Native.Nat.{ℕ, zero, suc, ◌<◌}
 use native.Mathlib.Omega.{arith}
 use lib.ListN.{get_or, length}
-use Rattle.sequences.proofs.Parts.{get_d_map}
+use Rattle.sequences.proofs.Parts.{get_or_map}
 use Rattle.arrivals.specs.Meetings.{Action, nothing, action_from, may_wait}
 use Rattle.operators.specs.Table.{action_of, operator_of, table}
 
@@ -21,7 +21,7 @@ Says codes operator = (length codes ≡ 3) × ((input : ℕ) → input < 3 → a
 row_says : (codes : List ℕ) (operator : ℕ) → length codes ≡ 3 → map action_from codes ≡ operator_of operator → Says codes operator
 unfolding action_of
 row_says codes operator three same =
-    (three, λ input h. sym (get_d_map action_from codes input 0 nothing (omega arith)) ∙ ap (λ (l : List Action). get_or l input nothing) same)
+    (three, λ input h. sym (get_or_map action_from codes input 0 nothing (omega arith)) ∙ ap (λ (l : List Action). get_or l input nothing) same)
 
 pub or-says : (operator : ℕ) → operator ≡ 1 → Says (0 ∷ 0 ∷ 7 ∷ []) operator
 unfolding action_from operator_of

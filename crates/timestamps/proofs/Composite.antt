@@ -11,7 +11,7 @@ use lib.Seq.{ext_get_or}
 use borrow.Author.Tests.{eq-eqb, eqb-true, eqb-false}
 use Rattle.sequences.specs.Members.{◌is_in◌, SameMembers}
 use Rattle.sequences.specs.Select.{filter, some_passes}
-use Rattle.sequences.proofs.Parts.{get_d_map}
+use Rattle.sequences.proofs.Parts.{get_or_map}
 use Rattle.sequences.proofs.Booleans.{either_way, never_both, same_test}
 use Rattle.sequences.proofs.Members.{map_in, map_of, map_same}
 use Rattle.sequences.proofs.Range.{range_in, range_of, length_range, get_or_range}
@@ -28,7 +28,7 @@ same-stamp s t e f = λ i. record { logger = e i; tick = record { 0 = f i } }
 pub at_place : {B : Type 0} (f : ℕ → B) (z : B) (k : ℕ) → k < 8 → get_or (map f logger_places) k z ≡ f k
 at_place f z k h =
     let n : k < length logger_places = omega (arith, length_range 0 8) in
-    get_d_map f logger_places k 0 z n ∙ ap f (get_or_range 0 8 k 0 h ∙ omega arith)
+    get_or_map f logger_places k 0 z n ∙ ap f (get_or_range 0 8 k 0 h ∙ omega arith)
 
 pub each-place : {B : Type 0} (f g : ℕ → B) → ((k : ℕ) → k < 8 → f k ≡ g k) → map f logger_places ≡ map g logger_places
 each-place f g h = map_same f g logger_places (λ k m. h k (range_of 0 8 m).1)

@@ -10,7 +10,7 @@ use lib.ListN.{get_or, length, length-map, length-set, set}
 use lib.Seq.{get_or-set_other, get_or-set_same}
 use Rattle.sequences.specs.Range.{numbers_from}
 use Rattle.sequences.proofs.Members.{map_same}
-use Rattle.sequences.proofs.Parts.{get_d_map}
+use Rattle.sequences.proofs.Parts.{get_or_map}
 use Rattle.sequences.proofs.Range.{get_or_range, length_range, range_of}
 use Rattle.occurrences.specs.declared.Occurrence.{Occurrence}
 use Rattle.occurrences.specs.Packed.{Notes, Stand}
@@ -37,7 +37,7 @@ length_waiters list w = length-map (numbers_from 0 list.len) (λ i. at w (place_
 pub waiter_in : (list : WaitingList) (w : List (List ℕ)) (i : ℕ) → i < list.len → get_or (waiters_of list w) i [] ≡ get_or w (place_in list.order i + 1) []
 unfolding waiters_of
 waiter_in list w i h =
-    get_d_map (λ j. at w (place_in list.order j)) (numbers_from 0 list.len) i 0 [] (omega (arith, length_range 0 list.len))
+    get_or_map (λ j. at w (place_in list.order j)) (numbers_from 0 list.len) i 0 [] (omega (arith, length_range 0 list.len))
     ∙ ap (λ j. at w (place_in list.order j)) (get_or_range 0 list.len i 0 h ∙ zero-add i)
 
 -- ---- the list as it is kept

@@ -14,7 +14,7 @@ use lib.Pow.{field, high, low, mod-mod-pow, pow-add, pow_mono, pow_pos, shl_exac
 use Rattle.sequences.specs.Choice.{pick}
 use Rattle.sequences.specs.Range.{numbers_from}
 use Rattle.sequences.specs.Select.{each_passes}
-use Rattle.sequences.proofs.Parts.{get_d_map}
+use Rattle.sequences.proofs.Parts.{get_or_map}
 use Rattle.sequences.proofs.Range.{get_or_range, length_range, range_in}
 use Rattle.sequences.proofs.Select.{all_of}
 use Rattle.waiting_lists.specs.Lists.{place_in}
@@ -181,4 +181,4 @@ pub length_firsts : (n a : ℕ) → length (firsts n a) ≡ n
 length_firsts n a = length-map (numbers_from 0 n) (place_in a) ∙ length_range 0 n
 
 pub firsts_at : (n a i : ℕ) → i < n → get_or (firsts n a) i 0 ≡ place_in a i
-firsts_at n a i h = get_d_map (place_in a) (numbers_from 0 n) i 0 0 (omega (arith, length_range 0 n)) ∙ ap (place_in a) (get_or_range 0 n i 0 h ∙ zero-add i)
+firsts_at n a i h = get_or_map (place_in a) (numbers_from 0 n) i 0 0 (omega (arith, length_range 0 n)) ∙ ap (place_in a) (get_or_range 0 n i 0 h ∙ zero-add i)

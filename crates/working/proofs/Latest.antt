@@ -11,7 +11,7 @@ use lib.ListN.{get_or, length, length-map}
 use borrow.Author.Tests.{eq-eqb, ne_eqb}
 use Rattle.sequences.specs.Members.{◌is_in◌, SameMembers}
 use Rattle.sequences.proofs.Members.{map_in, map_of, same_sym}
-use Rattle.sequences.proofs.Parts.{get_d_map}
+use Rattle.sequences.proofs.Parts.{get_or_map}
 use Rattle.sequences.proofs.Rising.{keys_same, later_rises}
 use Rattle.timestamps.specs.declared.Timestamp.{Timestamp}
 use Rattle.timestamps.specs.Composite.{members, present_at, stamp_at}
@@ -78,9 +78,9 @@ module _ (p : Plan) (passage : List ℕ) (es : List EventEntry) (ok : PlanOk p) 
 
   stamp-at : (j : ℕ) → j < length es → get_or (stamps_in p passage) j blank_stamp ≡ stamp_of (placed p.kinds p.loggers (get_or es j no_entry))
   stamp-at j k =
-      get_d_map stamp_of (passage_events p passage) j no_event blank_stamp (omega (arith, accepted-count p passage es B h))
+      get_or_map stamp_of (passage_events p passage) j no_event blank_stamp (omega (arith, accepted-count p passage es B h))
       ∙ ap (λ l. stamp_of (get_or l j no_event)) (accepted-events p passage es B h)
-      ∙ ap stamp_of (get_d_map (placed p.kinds p.loggers) es j no_entry no_event k)
+      ∙ ap stamp_of (get_or_map (placed p.kinds p.loggers) es j no_entry no_event k)
 
   logger-within : (j : ℕ) → j < length es → (get_or (stamps_in p passage) j blank_stamp).logger < length p.loggers
   logger-within j k = rw (stamp-at j k) (member_place p.loggers _ (entry_ok j k).logger).0
