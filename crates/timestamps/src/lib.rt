@@ -9,16 +9,16 @@ ghost use Rattle.timestamps.specs.Order.{blank, clearly_earlier, quotient, valid
 
 // A tick of a logger's own clock (document 01: local tick).
 #[repr(C)]
-#[derive(Clone, Copy)]
+#[derive(Clone, Copy, PartialEq, Eq, PartialOrd, Ord)]
 pub struct LocalTick(pub u64);
 
 // A tick of the clock that all loggers share (document 01: global tick).
-#[derive(Clone, Copy)]
+#[derive(Clone, Copy, PartialEq, Eq, PartialOrd, Ord)]
 pub struct GlobalTick(pub u64);
 
 // Document 01's stamp: the place of a logger and its local tick.
 #[repr(C)]
-#[derive(Clone, Copy)]
+#[derive(Clone, Copy, PartialEq, Eq)]
 pub struct Timestamp {
     pub logger: u8,
     pub tick: LocalTick,
@@ -127,7 +127,7 @@ pub struct CompositeTimestamp {
 // ---- how two composites compare
 
 // The word for how one composite stands to another (specs/Comparison.antt: `says` what each means, `order_number` its number).
-#[derive(Clone, Copy)]
+#[derive(Clone, Copy, PartialEq, Eq)]
 pub enum Order {
     Incomparable,
     Before,
@@ -157,7 +157,7 @@ impl Order {
 }
 
 // The comparison: one word, and whether the first is weakly before the second.
-#[derive(Clone, Copy)]
+#[derive(Clone, Copy, PartialEq, Eq)]
 pub struct Relation {
     pub order: Order,
     pub weakly_before: bool,
