@@ -1,52 +1,52 @@
 -- Walking the elements of a set in rising order: the next element from a number on, and what comes after it.
-use mathlib.Core.Path.{◌≡◌, refl, sym, ap, ◌∙◌}
-use mathlib.Core.Bool.{Bool, true, false}
+use mathlib.Core.Path.{◌≡◌, refl, ap, ◌∙◌}
+use mathlib.Core.Bool.{true, false}
 use mathlib.Core.List.Memᴰ
 use mathlib.Core.List.{List, [], ◌∷◌, ◌++◌}
 use mathlib.Core.Logic.{⊎_elim}
 use Prim.Native.Nat.{ℕ, zero, suc, ◌+◌, ◌-◌, ◌/◌, ◌%◌, ◌^◌, min, ◌≤◌, ◌<◌}
 use native.Mathlib.Decide.{dec_lt}
-use native.Mathlib.Nat.{sub-zero, suc-add}
+use native.Mathlib.Nat.{suc-add}
 use native.Mathlib.Omega.{arith}
-use borrow.Author.Tests.{lt-ltb, le-ltb, le-leb, lt-leb, leb-true}
+use borrow.Author.Tests.{le-leb, lt-leb, leb-true}
 use lib.Count.{count_trailing_zeros, under}
-use lib.Dec.{leb, ltb}
-use lib.Pow.{shr-shr}
-use Rattle.sequences.specs.Choice.{pick}
+use lib.Dec.{leb}
+use lib.Pow.{shr-shr, shr_lt}
+use Rattle.std.specs.Prelude.{Some, None, option_map}
+use Rattle.std.specs.List.{slice_get}
 use Rattle.sequences.specs.Members.{◌is_in◌}
 use Rattle.sequences.specs.Range.{numbers_from, Rising}
 use Rattle.sequences.specs.Select.{filter}
-use Rattle.sequences.proofs.Booleans.{either_way, same_test}
+use Rattle.sequences.proofs.Booleans.{either_way}
 use Rattle.sequences.proofs.Range.{range_none, range_next, range_split, range_of}
 use Rattle.sequences.proofs.Select.{filter_nil, filter_yes, filter_no, filter-append, filter_in, filter_of, filter_all, filter_none, filter_same, filter-rising}
 use Rattle.event_sets.specs.declared.EventSet.{EventSet}
-use Rattle.event_sets.specs.Sets.{is_set, has, elements, first_or, elements_from, next_from, next_bit}
-use Rattle.event_sets.proofs.Members.{has-low, has-high, elements-has, elements-below, elements-rising}
-use Rattle.event_sets.proofs.Words.{bit_one, bit_zero}
+use Rattle.event_sets.specs.Sets.{is_set, has, elements, elements_from, next_from, next_bit}
+use Rattle.event_sets.proofs.Members.{has-low, has-high, has-below, elements-has, elements-below, elements-rising}
+use Rattle.event_sets.proofs.Words.{bit_one, bit_zero, set_zero}
 
 -- ---- the first of a list
 
-first-least : (d : ℕ) (l : List ℕ) {j : ℕ} → Rising l → j is_in l → first_or d l ≤ j
-unfolding first_or Rising
-first-least d [] r m = absurd (Memᴰ.not-nil m)
-first-least d (a ∷ l) r m = ⊎_elim (λ e. omega (arith, e)) (λ n. omega (arith, r.0 _ n)) (Memᴰ.cases_cons m)
+first-in : {A : Type 0} (l : List A) {a : A} → slice_get l 0 ≡ Some a → a is_in l
+first-in [] e = cc
+first-in (b ∷ l) e = Memᴰ.head (cc)
 
--- what holds of every element, and of the number for none, holds of the first
-first_holds : (P : ℕ → Type 0) (d : ℕ) (l : List ℕ) → P d → ((j : ℕ) → j is_in l → P j) → P (first_or d l)
-unfolding first_or
-first_holds P d [] e h = e
-first_holds P d (a ∷ l) e h = h a (Memᴰ.head refl)
+first-none : {A : Type 0} (l : List A) → slice_get l 0 ≡ None → l ≡ []
+first-none [] e = refl
+first-none (b ∷ l) e = cc
 
-first-none : (d : ℕ) (l : List ℕ) → ((j : ℕ) → j is_in l → j < d) → d ≤ first_or d l → l ≡ []
-unfolding first_or
-first-none d [] h e = refl
-first-none d (a ∷ l) h e = absurd (omega (arith, h a (Memᴰ.head refl)))
+first-least : (l : List ℕ) {a j : ℕ} → Rising l → slice_get l 0 ≡ Some a → j is_in l → a ≤ j
+unfolding Rising
+first-least [] r e m = cc
+first-least (b ∷ l) {a} {j} r e m = let same : b ≡ a = cc in ⊎_elim (λ e. omega (arith, e)) (λ n. omega (arith, r.0 j n)) (Memᴰ.cases_cons m)
 
--- the first of two lists, where those of the first list are below e
-first-append : (d e : ℕ) (l m : List ℕ) → ((j : ℕ) → j is_in l → j < e) → first_or d (l ++ m) ≡ pick (ltb (first_or e l) e) (first_or e l) (first_or d m)
-unfolding first_or
-first-append d e [] m h = rw (le-ltb e e (omega arith))
-first-append d e (a ∷ l) m h = rw (lt-ltb a e (h a (Memᴰ.head refl)))
+-- the first of two lists
+first-append : {A : Type 0} (l m : List A) {a : A} → slice_get l 0 ≡ Some a → slice_get (l ++ m) 0 ≡ Some a
+first-append [] m e = cc
+first-append (b ∷ l) m e = e
+
+first-append_none : {A : Type 0} (l m : List A) → slice_get l 0 ≡ None → slice_get (l ++ m) 0 ≡ slice_get m 0
+first-append_none l m e = rw (first-none l e)
 
 -- ---- the elements from a number on
 
@@ -85,86 +85,47 @@ from_no s n h y =
 
 -- ---- the next element
 
-pub next-most : (s : EventSet) (n : ℕ) → next_from s n ≤ 128
-unfolding next_from elements_from
-next-most s n = first_holds (λ j. j ≤ 128) 128 (elements_from s n) (omega arith) (λ j m. omega (arith, elements-below s j (filter_of (leb n) (elements s) m).0))
+module _ (s : EventSet) (n : ℕ) {e : ℕ} (f : next_from s n ≡ Some e) where
+  next-in : e is_in elements_from s n
+  unfolding next_from
+  next-in = first-in (elements_from s n) f
 
-pub next-later : (s : EventSet) (n : ℕ) → n ≤ 128 → n ≤ next_from s n
-unfolding next_from elements_from
-next-later s n h = first_holds (λ j. n ≤ j) 128 (elements_from s n) h (λ j m. leb-true n j (filter_of (leb n) (elements s) m).1)
+  -- the set has it
+  pub next-has : has s e ≡ true
+  unfolding elements_from
+  next-has = (elements-has s e).0 (filter_of (leb n) (elements s) next-in).0
 
--- none of those from n on is smaller
-pub next-least : (s : EventSet) (n j : ℕ) → has s j ≡ true → n ≤ j → next_from s n ≤ j
-unfolding next_from elements_from
-next-least s n j e h =
-    first-least 128 (elements_from s n) (filter-rising (leb n) (elements s) (elements-rising s)) (filter_in (leb n) (elements s) ((elements-has s j).1 e) (le-leb n j h))
+  pub next-most : e < 128
+  next-most = has-below s e next-has
 
--- the set has it, unless it is 128
-pub next-has : (s : EventSet) (n : ℕ) → next_from s n < 128 → has s (next_from s n) ≡ true
-unfolding next_from elements_from
-next-has s n = first_holds (λ j. j < 128 → has s j ≡ true) 128 (elements_from s n) (λ l. absurd (omega arith)) (λ j m l. (elements-has s j).0 (filter_of (leb n) (elements s) m).0)
+  pub next-later : n ≤ e
+  unfolding elements_from
+  next-later = leb-true n e (filter_of (leb n) (elements s) next-in).1
+
+  -- none of those from n on is smaller
+  pub next-least : (j : ℕ) → has s j ≡ true → n ≤ j → e ≤ j
+  unfolding next_from elements_from
+  next-least j y h =
+      first-least (elements_from s n) (filter-rising (leb n) (elements s) (elements-rising s)) f (filter_in (leb n) (elements s) ((elements-has s j).1 y) (le-leb n j h))
+
+-- where there is none the set has none
+pub next-none : (s : EventSet) (n : ℕ) → next_from s n ≡ None → elements_from s n ≡ []
+unfolding next_from
+next-none s n e = first-none (elements_from s n) e
 
 -- ---- a walk: a loop that goes from each element to the next one
 
-next_end : (s : EventSet) (n : ℕ) → 128 ≤ n → next_from s n ≡ 128
-unfolding next_from first_or
-next_end s n h = rw (from_end s n h)
-
-next_yes : (s : EventSet) (n : ℕ) → n < 128 → has s n ≡ true → next_from s n ≡ n
-unfolding next_from first_or
-next_yes s n h y = rw (from_yes s n h y)
-
-next_no : (s : EventSet) (n : ℕ) → n < 128 → has s n ≡ false → next_from s n ≡ next_from s (n + 1)
+walk_in : (s : EventSet) (d n : ℕ) {e : ℕ} → n + d ≡ 128 → next_from s n ≡ Some e → elements_from s n ≡ e ∷ elements_from s (e + 1)
 unfolding next_from
-next_no s n h y = rw (from_no s n h y)
-
-walk_in : (s : EventSet) (d n : ℕ) → n + d ≡ 128 → next_from s n < 128 → elements_from s n ≡ next_from s n ∷ elements_from s (next_from s n + 1)
-walk_in s zero n e l = absurd (omega (arith, next-later s n (omega arith)))
-walk_in s (suc d) n e l =
+walk_in s zero n h f = let z = from_end s n (omega arith) in absurd (let g = rw z at f in cc)
+walk_in s (suc d) n {e = e} h f =
     ⊎_elim
-    (λ y. rw (next_yes s n (omega arith) y) (from_yes s n (omega arith) y))
-    (λ z. let f = next_no s n (omega arith) z in
-    rw (f, from_no s n (omega arith) z) (walk_in s d (n + 1) (omega arith) (rw f at l)))
+    (λ y. let z = from_yes s n (omega arith) y in let g = rw z at f in let same : n ≡ e = cc in rw (← same) z)
+    (λ y. let z = from_no s n (omega arith) y in rw z (walk_in s d (n + 1) (omega arith) (rw z at f)))
     (either_way (has s n))
 
-pub walk_next : (s : EventSet) (n : ℕ) → next_from s n < 128 → elements_from s n ≡ next_from s n ∷ elements_from s (next_from s n + 1)
-walk_next s n l =
-    elim (dec_lt n 128) [
-      | yes h ↦ walk_in s (128 - n) n (omega arith) l
-      | no h ↦ absurd (omega (arith, next_end s n (omega arith)))
-    ]
-
-pub walk_end : (s : EventSet) (n : ℕ) → 128 ≤ next_from s n → elements_from s n ≡ []
-unfolding next_from elements_from
-walk_end s n h = first-none 128 (elements_from s n) (λ j m. elements-below s j (filter_of (leb n) (elements s) m).0) h
-
--- what lies between a number and the next element are no elements
-pub walk_skip : (s : EventSet) (n : ℕ) → elements_from s (next_from s n) ≡ elements_from s n
-unfolding elements_from
-walk_skip s n =
-    elim (dec_lt 128 n) [
-      | yes h ↦ from_end s (next_from s n) (omega (arith, next_end s n (omega arith))) ∙ sym (from_end s n (omega arith))
-      | no h ↦ filter_same (leb (next_from s n)) (leb n) (elements s) (λ j m. same_test (leb (next_from s n) j) (leb n j)
-          (λ e. le-leb n j (omega (arith, next-later s n (omega arith), leb-true (next_from s n) j e)))
-          (λ e. le-leb (next_from s n) j (next-least s n j ((elements-has s j).0 m) (leb-true n j e))))
-    ]
-
-pub next-again : (s : EventSet) (n : ℕ) → next_from s (next_from s n) ≡ next_from s n
-unfolding next_from
-next-again s n = ap (first_or 128) (walk_skip s n)
-
--- a loop over the elements, at the place `at`: where it starts, and each turn
-pub walk_start : (s : EventSet) (at : ℕ) → at ≡ next_from s 0 → (next_from s at ≡ at) × (elements_from s at ≡ elements s)
-walk_start s at e = rw e (next-again s 0, walk_skip s 0 ∙ from_start s)
-
-pub walk_turn : (s : EventSet) (at at' : ℕ) → next_from s at ≡ at → at < 128 → at' ≡ next_from s (at + 1)
-    → (next_from s at' ≡ at') × (elements_from s at ≡ at ∷ elements_from s at') × (at < at') × (at' ≤ 128)
-walk_turn s at at' e h f = (
-  rw f (next-again s (at + 1)),
-  rw (f, walk_skip s (at + 1)) (rw e at (walk_next s at (omega arith))),
-  omega (arith, f, next-later s (at + 1) (omega arith)),
-  omega (arith, f, next-most s (at + 1)),
-)
+pub walk_next : (s : EventSet) (n : ℕ) {e : ℕ} → next_from s n ≡ Some e → elements_from s n ≡ e ∷ elements_from s (e + 1)
+walk_next s n f = walk_in s (128 - n) n (omega (arith, next-most s n f, next-later s n f)) f
 
 -- ---- the next bit of a word, by its trailing zeros
 
@@ -178,85 +139,112 @@ unfolding count_trailing_zeros
 zeros_fewer zero e n = omega arith
 zeros_fewer (suc d) e n = rw (suc-add d e) (under_min (n % 2) (count_trailing_zeros d (n / 2)) (count_trailing_zeros (d + e) (n / 2)) d (zeros_fewer d e (n / 2)))
 
--- a test that goes by the bits of a word, from the number base on
-module _ (p : ℕ → Bool) (word base : ℕ) (agree : (j : ℕ) → base ≤ j → j < base + 64 → p j ≡ is_set word (j - base)) where
-  first_zeros : (d k : ℕ) → base ≤ k → k + d ≤ base + 64 → first_or (k + d) (filter p (numbers_from k d)) ≡ k + count_trailing_zeros d (word / 2 ^ (k - base))
-  unfolding first_or count_trailing_zeros
-  first_zeros zero k h l = rw (range_none k, filter_nil p)
-  first_zeros (suc d) k h l =
-      let a : k + 1 - base ≡ k - base + 1 = omega arith in
-      let half : word / 2 ^ (k - base) / 2 ≡ word / 2 ^ (k + 1 - base) = shr-shr word (k - base) 1 ∙ ap (λ n. word / 2 ^ n) (sym a) in
-      let b : k + suc d ≡ k + 1 + d = omega arith in
-      let same = agree k h (omega arith) in
+module _ (word : ℕ) where
+  half : (k : ℕ) → word / 2 ^ k / 2 ≡ word / 2 ^ (k + 1)
+  half k = shr-shr word k 1
+
+  first_zeros : (d e k : ℕ) → word / 2 ^ k < 2 ^ d → 0 < word / 2 ^ k
+      → slice_get (filter (is_set word) (numbers_from k d)) 0 ≡ Some (k + count_trailing_zeros (d + e) (word / 2 ^ k))
+  unfolding count_trailing_zeros
+  first_zeros zero e k f p = absurd (omega (arith, f))
+  first_zeros (suc d) e k f p =
+      let b : suc d ≡ d + 1 = omega arith in
+      let more : word / 2 ^ k < 2 ^ (d + 1) = rw (← b) f in
+      let fits : word / 2 ^ (k + 1) < 2 ^ d = rw (half k) at (shr_lt d 1 more) in
       ⊎_elim
-      (λ y. rw (range_next k d, filter_yes p k (numbers_from (k + 1) d) y, bit_one word (k - base) (sym same ∙ y)) (omega arith))
-      (λ n. rw (range_next k d, filter_no p k (numbers_from (k + 1) d) n, bit_zero word (k - base) (sym same ∙ n), half, b) (omega (arith, first_zeros d (k + 1) (omega arith) (omega arith))))
-      (either_way (p k))
+      (λ y. rw (range_next k d, filter_yes (is_set word) k (numbers_from (k + 1) d) y, suc-add d e, bit_one word k y) (ap Some (omega arith)))
+      (λ n. let z = bit_zero word k n in
+      rw (range_next k d, filter_no (is_set word) k (numbers_from (k + 1) d) n, suc-add d e, z, half k)
+      (first_zeros d e (k + 1) fits (omega (arith, half k, z, p)) ∙ ap Some (omega arith)))
+      (either_way (is_set word k))
 
-bit_zeros : (word k : ℕ) → k ≤ 64 → next_bit word k ≡ k + count_trailing_zeros (64 - k) (word / 2 ^ k)
-unfolding next_bit
-bit_zeros word k h =
-    let a : k + (64 - k) ≡ 64 = omega arith in
-    rw (a, sub-zero k) at (first_zeros (is_set word) word 0 (λ j l m. rw sub-zero) (64 - k) k (omega arith) (omega arith))
+  first_empty : (d k : ℕ) → word / 2 ^ k ≡ 0 → filter (is_set word) (numbers_from k d) ≡ []
+  first_empty zero k z = rw (range_none k, filter_nil (is_set word))
+  first_empty (suc d) k z =
+      rw (range_next k d, filter_no (is_set word) k (numbers_from (k + 1) d) (set_zero word k (omega (arith, z))))
+      (first_empty d (k + 1) (omega (arith, half k, z)))
 
-pub bit_beyond : (word k : ℕ) → 64 ≤ k → next_bit word k ≡ 64
-unfolding next_bit first_or
-bit_beyond word k h =
-    let a : 64 - k ≡ 0 = omega arith in
-    rw (a, range_none k, filter_nil (is_set word))
+  pub bit_beyond : (k : ℕ) → 64 ≤ k → next_bit word k ≡ None
+  unfolding next_bit
+  bit_beyond k h = let a : 64 - k ≡ 0 = omega arith in rw (a, range_none k, filter_nil (is_set word))
 
-pub bit_is : (word k : ℕ) → k < 64 → next_bit word k ≡ min 64 (k + count_trailing_zeros 64 (word / 2 ^ k))
-bit_is word k h =
-    let a : 64 - k + k ≡ 64 = omega arith in
-    omega (arith, bit_zeros word k (omega arith), rw a at (zeros_fewer (64 - k) k (word / 2 ^ k)))
+  pub bit_empty : (k : ℕ) → word / 2 ^ k ≡ 0 → next_bit word k ≡ None
+  unfolding next_bit
+  bit_empty k z = rw (first_empty (64 - k) k z)
 
-pub bit_most : (word k : ℕ) → next_bit word k ≤ 64
-bit_most word k =
-    elim (dec_lt k 64) [
-      | yes h ↦ omega (arith, bit_is word k h)
-      | no h ↦ omega (arith, bit_beyond word k (omega arith))
-    ]
+  pub bit_is : (k : ℕ) → k < 64 → word < 2 ^ 64 → 0 < word / 2 ^ k → next_bit word k ≡ Some (k + count_trailing_zeros 64 (word / 2 ^ k))
+  unfolding next_bit
+  bit_is k h f p =
+      let a : 64 - k + k ≡ 64 = omega arith in
+      let fits : word < 2 ^ (64 - k + k) = rw a f in
+      rw a at (first_zeros (64 - k) k k (shr_lt (64 - k) k fits) p)
+
+  pub bit_below : (k : ℕ) {place : ℕ} → next_bit word k ≡ Some place → place < 64
+  unfolding next_bit
+  bit_below k e = omega (arith, range_of k (64 - k) (filter_of (is_set word) (numbers_from k (64 - k)) (first-in _ e)).0)
 
 -- ---- the next element, by the next bits of the words
 
-pub next-high : (s : EventSet) (n : ℕ) → 64 ≤ n → next_from s n ≡ 64 + next_bit s.high (n - 64)
-unfolding next_from first_or
-next-high s n h =
-    elim (dec_lt 128 n) [
-      | yes l ↦ rw (from_end s n (omega arith), bit_beyond s.high (n - 64) (omega arith))
-      | no l ↦ let a : n + (128 - n) ≡ 128 = omega arith in
-          let b : 64 - (n - 64) ≡ 128 - n = omega arith in
-          rw (from-count s n (omega arith)) (omega (
-            arith,
-            rw a at (first_zeros (has s) s.high 64 (has-high s) (128 - n) n h (omega arith)),
-            rw b at (bit_zeros s.high (n - 64) (omega arith)),
-          ))
-    ]
+module _ (s : EventSet) where
+  -- from 64 on the bits of the high word
+  high_places : (d k : ℕ) → k + d ≤ 64
+      → slice_get (filter (has s) (numbers_from (64 + k) d)) 0 ≡ option_map (λ p. 64 + p) (slice_get (filter (is_set s.high) (numbers_from k d)) 0)
+  high_places zero k l = rw (range_none k, range_none (64 + k), filter_nil (has s), filter_nil (is_set s.high))
+  high_places (suc d) k l =
+      let a : 64 + k - 64 ≡ k = omega arith in
+      let same : has s (64 + k) ≡ is_set s.high k = rw a at (has-high s (64 + k) (omega arith) (omega arith)) in
+      let more : 64 + k + 1 ≡ 64 + (k + 1) = omega arith in
+      ⊎_elim
+      (λ y. rw (range_next k d, range_next (64 + k) d, filter_yes (is_set s.high) k _ y, filter_yes (has s) (64 + k) _ (same ∙ y)))
+      (λ n. rw (range_next k d, range_next (64 + k) d, filter_no (is_set s.high) k _ n, filter_no (has s) (64 + k) _ (same ∙ n), more) (high_places d (k + 1) (omega arith)))
+      (either_way (is_set s.high k))
 
-next_low : (s : EventSet) (n : ℕ) → n < 64 → next_from s n ≡ pick (ltb (next_bit s.low n) 64) (next_bit s.low n) (64 + next_bit s.high 0)
-unfolding next_from next_bit
-next_low s n h =
-    let a : 128 - n ≡ 64 - n + 64 = omega arith in
-    let b : n + (64 - n) ≡ 64 = omega arith in
-    let low : filter (has s) (numbers_from n (64 - n)) ≡ filter (is_set s.low) (numbers_from n (64 - n)) =
-    filter_same (has s) (is_set s.low) (numbers_from n (64 - n)) (λ j m. has-low s j (omega (arith, range_of n (64 - n) m))) in
-    let rest : first_or 128 (filter (has s) (numbers_from 64 64)) ≡ 64 + next_bit s.high 0 =
-    ap (first_or 128) (sym (from-count s 64 (omega arith))) ∙ next-high s 64 (omega arith) in
-    rw (
-      from-count s n (omega arith),
-      a,
-      range_split n (64 - n) 64,
-      b,
-      filter-append (has s) (numbers_from n (64 - n)) (numbers_from 64 64),
-      low,
-      first-append 128 64 (filter (is_set s.low) (numbers_from n (64 - n))) (filter (has s) (numbers_from 64 64))
-          (λ j m. omega (arith, range_of n (64 - n) (filter_of (is_set s.low) (numbers_from n (64 - n)) m).0)),
-      rest,
-    )
+  pub next-high : (n : ℕ) → 64 ≤ n → next_from s n ≡ option_map (λ p. 64 + p) (next_bit s.high (n - 64))
+  unfolding next_from next_bit
+  next-high n h =
+      elim (dec_lt 128 n) [
+        | yes l ↦ (let a : 64 - (n - 64) ≡ 0 = omega arith in rw (from_end s n (omega arith), a, range_none (n - 64), filter_nil (is_set s.high)))
+        | no l ↦ let a : 64 + (n - 64) ≡ n = omega arith in
+            let b : 64 - (n - 64) ≡ 128 - n = omega arith in
+            rw (from-count s n (omega arith), b) (rw a at (high_places (128 - n) (n - 64) (omega arith)))
+      ]
 
--- what the code returns: a next bit of the low word, else the next bit of the high word
-pub next-found : (s : EventSet) (n r : ℕ) → n < 64 → r ≡ next_bit s.low n → r < 64 → r ≡ next_from s n
-next-found s n r h e l = rw (next_low s n h, ← e, lt-ltb r 64 l)
+  -- below 64 first those of the low word
+  low_places : (n : ℕ) → n < 64 → elements_from s n ≡ filter (is_set s.low) (numbers_from n (64 - n)) ++ elements_from s 64
+  low_places n h =
+      let a : 128 - n ≡ 64 - n + 64 = omega arith in
+      let b : n + (64 - n) ≡ 64 = omega arith in
+      let low : filter (has s) (numbers_from n (64 - n)) ≡ filter (is_set s.low) (numbers_from n (64 - n)) =
+      filter_same (has s) (is_set s.low) (numbers_from n (64 - n)) (λ j m. has-low s j (omega (arith, range_of n (64 - n) m))) in
+      rw (
+        from-count s n (omega arith),
+        a,
+        range_split n (64 - n) 64,
+        b,
+        filter-append (has s) (numbers_from n (64 - n)) (numbers_from 64 64),
+        low,
+        from-count s 64 (omega arith),
+      )
 
-pub next_after : (s : EventSet) (n r q : ℕ) → n < 64 → r ≡ next_bit s.low n → 64 ≤ r → q ≡ next_bit s.high 0 → 64 + q ≡ next_from s n
-next_after s n r q h e l f = rw (next_low s n h, ← e, le-ltb r 64 l, f)
+  found_low : (n : ℕ) {place : ℕ} → n < 64 → next_bit s.low n ≡ Some place → next_from s n ≡ Some place
+  unfolding next_from next_bit
+  found_low n h e = rw (low_places n h) (first-append _ _ e)
+
+  past_low : (n : ℕ) → n < 64 → next_bit s.low n ≡ None → next_from s n ≡ next_from s 64
+  unfolding next_from next_bit
+  past_low n h e = rw (low_places n h) (first-append_none _ _ e)
+
+  -- what the code returns: a next bit of the low word, else the next bit of the high word
+  pub next-low : (n : ℕ) {place : ℕ} → next_bit s.low n ≡ Some place → next_from s n ≡ Some place
+  next-low n e =
+      elim (dec_lt n 64) [
+        | yes h ↦ found_low n h e
+        | no h ↦ absurd (let z = bit_beyond s.low n (omega arith) in cc)
+      ]
+
+  pub next-after : (n m : ℕ) → next_bit s.low n ≡ None → m ≡ n - 64 → next_from s n ≡ option_map (λ p. 64 + p) (next_bit s.high m)
+  next-after n m e f =
+      elim (dec_lt n 64) [
+        | yes h ↦ (let a : m ≡ 64 - 64 = omega arith in rw a (past_low n h e ∙ next-high 64 (omega arith)))
+        | no h ↦ rw f (next-high n (omega arith))
+      ]

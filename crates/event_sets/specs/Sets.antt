@@ -1,6 +1,7 @@
 -- Sets of event numbers below 128, in two words: what a set has, how sets are made, and their elements in rising order.
-use Rattle.std.specs.Prelude.{Bool, ◌&&◌, List, [], ◌∷◌, ℕ, ◌-◌, ◌/◌, ◌%◌, ◌^◌, ◌<◌, eqb, leb, ltb, length}
+use Rattle.std.specs.Prelude.{Option, Bool, ◌&&◌, List, ℕ, ◌-◌, ◌/◌, ◌%◌, ◌^◌, ◌<◌, eqb, leb, ltb, length}
 use Rattle.std.specs.Int.Bits.{bit_or}
+use Rattle.std.specs.List.{slice_get}
 use Rattle.sequences.specs.Choice.{pick}
 use Rattle.sequences.specs.Range.{numbers_from}
 use Rattle.sequences.specs.Select.{filter}
@@ -45,19 +46,14 @@ size_of s = length (elements s)
 
 -- ---- walking the elements
 
--- the first of a list, or d where it has none
-unfoldable pub first_or : ℕ → List ℕ → ℕ
-first_or d [] = d
-first_or d (a ∷ l) = a
-
 -- the elements that are at least n
 unfoldable pub elements_from : EventSet → ℕ → List ℕ
 elements_from s n = filter (leb n) (elements s)
 
--- the smallest of them; 128 where there is none
-unfoldable pub next_from : EventSet → ℕ → ℕ
-next_from s n = first_or 128 (elements_from s n)
+-- the smallest of them, if there is one
+unfoldable pub next_from : EventSet → ℕ → Option ℕ
+next_from s n = slice_get (elements_from s n) 0
 
--- the same for one word: the first place from k on whose bit is set; 64 where there is none
-unfoldable pub next_bit : ℕ → ℕ → ℕ
-next_bit word k = first_or 64 (filter (is_set word) (numbers_from k (64 - k)))
+-- the same for one word: the first place from k on whose bit is set
+unfoldable pub next_bit : ℕ → ℕ → Option ℕ
+next_bit word k = slice_get (filter (is_set word) (numbers_from k (64 - k))) 0

@@ -5,7 +5,7 @@
 ghost use Rattle.std.specs.Prelude.{◌≡◌};
 ghost use Rattle.event_sets.specs.Sets.{no_events, has, marked_with, union_of, size_of, next_bit, next_from};
 
-#[derive(Clone, Copy)]
+#[derive(Clone, Copy, PartialEq, Eq)]
 pub struct EventSet {
     pub low: u64,
     pub high: u64,
@@ -19,6 +19,8 @@ impl EventSet {
         EventSet { low: 0, high: 0 }
     }
 }
+
+// `marked`, `union`, `holds` and `count` are functions and no methods: as methods they say no more, and other crates name them so.
 
 // The set with this number too. There is no number from 128 on to mark.
 pub fn marked(set: EventSet, number: usize) -> EventSet
@@ -68,31 +70,31 @@ pub fn holds(set: EventSet, number: usize) -> bool
 pub fn count(set: EventSet) -> usize
     ensures { result ≡ size_of set }
 {
-    (u64::count_ones(set.low) + u64::count_ones(set.high)) as usize
+    (set.low.count_ones() + set.high.count_ones()) as usize
 }
 
-// The first place of a set bit of the word, from `place` on; 64 where there is none.
-fn next_bit(word: u64, place: usize) -> usize
+// The first place of a set bit of the word, from `place` on.
+fn next_bit(word: u64, place: usize) -> Option<usize>
     ensures { result ≡ next_bit word place }
 {
     if place >= 64 {
-        return 64;
+        return None;
     }
-    let next = place + u64::trailing_zeros(word >> place) as usize;
-    if next < 64 { next } else { 64 }
+    let rest = word >> place;
+    if rest == 0 {
+        None
+    } else {
+        Some(place + rest.trailing_zeros() as usize)
+    }
 }
 
-// The smallest number of the set that is at least `number`; 128 where there is none.
-pub fn next_from(set: EventSet, number: usize) -> usize
+// The smallest number of the set that is at least `number`.
+pub fn next_from(set: EventSet, number: usize) -> Option<usize>
     ensures { result ≡ next_from set number }
 {
-    if number >= 64 {
-        return 64 + next_bit(set.high, number - 64);
+    if let Some(place) = next_bit(set.low, number) {
+        return Some(place);
     }
-    let low = next_bit(set.low, number);
-    if low < 64 {
-        low
-    } else {
-        64 + next_bit(set.high, 0)
-    }
+    let place = next_bit(set.high, number.saturating_sub(64))?;
+    Some(64 + place)
 }

@@ -1,23 +1,21 @@
 -- `next_from` meets its contract: the next bit of the low word, if there is one, else that of the high word.
-use mathlib.Core.Path.{sym, ap, ◌∙◌}
-use Prim.Native.Nat.{◌+◌, ◌-◌}
-use native.Mathlib.Omega.{arith}
-use Rattle.event_sets.proofs.Walks.{bit_most, next-high, next-found, next_after}
+use Rattle.std.proofs.Common.{◌+◌, sym, ap, ◌∙◌, arith}
+use Rattle.std.specs.Prelude.{option_map}
+use Rattle.event_sets.proofs.Walks.{bit_below, next-low, next-after}
 use Rattle.event_sets.proofs.next_from.Goals as goal
 
+pub returns-in-Some : goal.returns-in-Some
+returns-in-Some c = sym (next-low c.args.set c.args.number (sym c.next_bit.ensures ∙ c.in-Some.is))
+
+pub returns-in_err-place : goal.returns-in_err-place
+returns-in_err-place c =
+    let past = next-after c.args.set c.args.number _ (sym c.next_bit.ensures ∙ c.in_default.is) c.saturating_sub.ensures in
+    c.from_residual.ensures ∙ sym (past ∙ ap (option_map (λ p. 64 + p)) (sym c.next_bit-2.ensures ∙ c.in_err-place.was))
+
 pub overflow_add-result : goal.overflow_add-result
-overflow_add-result c = let a = c.args in omega (arith, c.next_bit.ensures, bit_most a.set.high (a.number - 64))
+overflow_add-result c = omega (arith, bit_below c.args.set.high c.saturating_sub.result (sym c.next_bit-2.ensures ∙ c.in_ok-place.was))
 
-pub returns-then-number-ge64 : goal.returns-then-number-ge64
-returns-then-number-ge64 c = ap (λ n. 64 + n) c.next_bit.ensures ∙ sym (next-high _ _ c.if-number-ge64.true)
-
-pub overflow_add-result-else-low-lt64 : goal.overflow_add-result-else-low-lt64
-overflow_add-result-else-low-lt64 c = let a = c.args in omega (arith, c.next_bit-else-low-lt64.ensures, bit_most a.set.high 0)
-
-pub returns-then-low-lt64 : goal.returns-then-low-lt64
-returns-then-low-lt64 c = let low = c in next-found _ _ _ low.if-number-ge64.false low.next_bit-low.ensures c.if-low-lt64.true
-
-pub returns-else-low-lt64 : goal.returns-else-low-lt64
-returns-else-low-lt64 c =
-    let low = c in
-    next_after _ _ _ _ low.if-number-ge64.false low.next_bit-low.ensures c.if-low-lt64.false c.next_bit-else-low-lt64.ensures
+pub returns : goal.returns
+returns c =
+    let past = next-after c.args.set c.args.number _ (sym c.next_bit.ensures ∙ c.in_default.is) c.saturating_sub.ensures in
+    sym (past ∙ ap (option_map (λ p. 64 + p)) (sym c.next_bit-2.ensures ∙ c.in_ok-place.was))
