@@ -7,9 +7,10 @@ use native.Mathlib.Numerals.{add-one}
 use native.Mathlib.Omega.{arith}
 use lib.ListN.{length, take, drop, get_or, length-take}
 use lib.Seq.{drop-cons, get_or-take, drop-length, drop-drop, drop-nil}
+use Rattle.std.specs.Prelude.{Some, None}
 use Rattle.event_sets.specs.declared.EventSet.{EventSet}
 use Rattle.event_sets.specs.Sets.{elements, elements_from, next_from}
-use Rattle.event_sets.proofs.Walks.{walk_start, walk_turn, from_end}
+use Rattle.event_sets.proofs.Walks.{walk_next, next-none}
 use Rattle.readings.specs.Reader.{FindingAnswer, read_finding}
 use Rattle.listing.specs.Text.{comma, listed, number_text, line_text, lines_at}
 
@@ -31,22 +32,15 @@ module _ {A : Type 0} (text : ℕ → A → List ℕ) (n : ℕ) (l : List A) whe
       ap (λ j. drop j (take n l)) m ∙ sym (drop-drop (i - length (take n l)) (length (take n l)) (take n l)) ∙ rw (drop-length (take n l)) (drop-nil (i - length (take n l))) in
       ap (listed text separator) e
 
--- ---- the events from number e on
-module _ (s : EventSet) where
-  pub events-start : (e : ℕ) → e ≡ next_from s 0 → (next_from s e ≡ e) × ((separator : ℕ) → listed number_text separator (elements_from s e) ≡ listed number_text separator (elements s))
-  events-start e h = let w = walk_start s e h in (w.0, (λ separator. ap (listed number_text separator) w.1))
-
-  pub events_turn : (e e' : ℕ) → next_from s e ≡ e → e < 128 → e' ≡ next_from s (e + 1)
-      → (next_from s e' ≡ e')
-      × ((separator : ℕ) → listed number_text separator (elements_from s e) ≡ number_text separator e ++ listed number_text comma (elements_from s e'))
-      × (e < e')
-      × (e' ≤ 128)
+-- ---- the events from a number on
+module _ (s : EventSet) (n : ℕ) where
+  pub events_turn : (separator : ℕ) {e : ℕ} → next_from s n ≡ Some e → listed number_text separator (elements_from s n) ≡ number_text separator e ++ listed number_text comma (elements_from s (e + 1))
   unfolding listed
-  events_turn e e' h l f = let w = walk_turn s e e' h l f in (w.0, (λ separator. ap (listed number_text separator) w.1), w.2, w.3)
+  events_turn separator f = ap (listed number_text separator) (walk_next s n f)
 
-  pub events_end : (separator e : ℕ) → 128 ≤ e → listed number_text separator (elements_from s e) ≡ []
+  pub events_end : (separator : ℕ) → next_from s n ≡ None → listed number_text separator (elements_from s n) ≡ []
   unfolding listed
-  events_end separator e h = ap (listed number_text separator) (from_end s e h)
+  events_end separator f = ap (listed number_text separator) (next-none s n f)
 
 -- ---- the findings from a place on
 module _ (b : List ℕ) (at n : ℕ) (a : FindingAnswer) (r : a ≡ read_finding b at) where

@@ -96,11 +96,11 @@ fn put_events(page: &mut [u8], at: usize, events: EventSet) -> usize
 {
     let mut to = at;
     let mut separator = b' ';
-    let mut e = event_sets::next_from(events, 0);
-    while e < 128 {
+    let mut from = 0;
+    while let Some(e) = event_sets::next_from(events, from) {
         to = put_number(page, to, separator, e as u64);
         separator = b',';
-        e = event_sets::next_from(events, e + 1);
+        from = e + 1;
     }
     to
 }
