@@ -12,7 +12,7 @@ use Rattle.timestamps.specs.Order.{Clocks, before}
 use Rattle.timestamps.proofs.Composites.{not-weakly, weakly}
 use Rattle.timestamps.proofs.Stamps.{Before, before-is, before-says, clear_before, global, one_clock, two-clocks}
 use Rattle.occurrences.specs.declared.Occurrence.{Occurrence}
-use Rattle.occurrences.specs.Packed.{Notes, Stands}
+use Rattle.occurrences.specs.Packed.{Notes, Stands, byte_at}
 use Rattle.occurrences.specs.Steps.{Lowest, has_before, is_reached, note_at, own_before}
 use Rattle.occurrences.proofs.Seen.{Seen, lowest-is, lowest_le, note_global, seen-stands, stamp-at, stands-composite}
 use Rattle.occurrences.proofs.Views.{stamp}
@@ -171,6 +171,14 @@ module _ (ticks globals a b : List ℕ) (k : ℕ) where
   -- b's notes are both there
   abbrev pub Both : Type 0
   Both = 0 < note_at ticks (get_or b 2 0) k → 0 < note_at globals (get_or b 2 0) k
+
+  -- what the code tells of the events i and j that a and b name there
+  module _ (i j low : ℕ) (told : Bool) (first : i ≡ byte_at (get_or a 2 0) k) (second : j ≡ byte_at (get_or b 2 0) k) where
+    pub has_told : ((0 < get_or ticks j 0 → 0 < get_or globals j 0) → told ≡ has_before low (get_or ticks i 0) (get_or ticks j 0) (get_or globals j 0)) → Both → has_at low ≡ told
+    has_told e o = sym ((rw (first, second) at e) o)
+
+    pub reached_told : ((0 < get_or ticks j 0 → 0 < get_or globals j 0) → told ≡ is_reached low (get_or ticks i 0) (get_or ticks j 0) (get_or globals j 0)) → Both → reached_at low ≡ told
+    reached_told e o = sym ((rw (first, second) at e) o)
 
 module _ {ticks globals : List ℕ} (n : Notes ticks globals) (x y : Occurrence) (a b : List ℕ) (p : Stands n a x) (q : Stands n b y) (low : ℕ) (least : Lowest 8 (note_at globals (get_or a 2 0)) low) where
   pub before-each : ((k : ℕ) → k < 8 → Both ticks globals a b k → has_at ticks globals a b k low ≡ true) → all_before n.clocks (members x.latest) (members y.latest) ≡ true

@@ -127,15 +127,15 @@ module _ {ticks globals : List ℕ} (t : Notes ticks globals) where
     }
 
   -- the later of two words, whichever it is
-  module _ (a b i j : ℕ) (first : 0 < i → Only a i) (second : 0 < j → Only b j) (m : 0 < i) (n : 0 < j)
+  module _ (a b i j : ℕ) (first : Only a i) (second : Only b j)
       (p : (k : ℕ) → k < 8 → Names t.stamps k (byte_at a k)) (q : (k : ℕ) → k < 8 → Names t.stamps k (byte_at b k)) where
     pub second_settled : get_or globals i 0 + 1 < get_or globals j 0 → b < 2 ^ 64 → Settled globals (later_at ticks a b) b
-    second_settled h = apart_settled b a i j (second n) (first m) h q p (later_at ticks a b)
+    second_settled h = apart_settled b a i j second first h q p (later_at ticks a b)
         (λ k l o. later_second ticks (byte_at a k) (byte_at b k) o)
         (λ k l z. later_first ticks (byte_at a k) (byte_at b k) (let u : get_or ticks (byte_at b k) 0 ≡ 0 = rw z t.no_tick in omega arith))
 
     pub first_settled : get_or globals j 0 + 1 < get_or globals i 0 → a < 2 ^ 64 → Settled globals (later_at ticks a b) a
-    first_settled h = apart_settled a b j i (first m) (second n) h p q (later_at ticks a b)
+    first_settled h = apart_settled a b j i first second h p q (later_at ticks a b)
         (λ k l o. later_first ticks (byte_at a k) (byte_at b k) (omega (arith, o)))
         (λ k l z. beside k z (q k l))
       where

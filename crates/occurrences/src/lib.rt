@@ -2,7 +2,7 @@
 // combine. One logger is compared by local ticks, two by global ticks; nothing here divides.
 #![tactic(auto)]
 
-ghost use Rattle.std.specs.Prelude.{◌≡◌, ℕ, ◌+◌, ◌%◌, ◌^◌, ◌<◌, List, length, get_or, slice_index, slice_index_or};
+ghost use Rattle.std.specs.Prelude.{◌≡◌, ℕ, ◌+◌, ◌%◌, ◌^◌, ◌<◌, List, length, get_or, slice_index, slice_index_or, IfSome};
 ghost use Rattle.occurrences.specs.declared.Occurrence.{Occurrence};
 ghost use Rattle.occurrences.specs.Combination.{combined_of};
 ghost use Rattle.occurrences.specs.Occurrences.{is_weakly_before, occurrence_order, of_event};
@@ -33,13 +33,12 @@ pub fn of_event(logger: u8, number: usize) -> Packed
         → number < length t.stamps → (get_or t.stamps number blank).logger ≡ logger
         → Stands t result (of_event (slice_index_or t.stamps number blank) number) }
 {
-    let none = EventSet::none();
-    let events = event_sets::marked(none, number);
-    let mut c = [0u64; 3];
-    c[0] = events.low;
-    c[1] = events.high;
-    c[2] = (number as u64 + 1) << (8 * logger as usize);
-    c
+    let events = event_sets::marked(EventSet::none(), number);
+    [
+        events.low,
+        events.high,
+        (number as u64 + 1) << (8 * logger as usize),
+    ]
 }
 
 // Its events.
@@ -68,13 +67,17 @@ pub fn word_at(o: &Packed, ticks: &[u64], k: usize) -> u64
     ticks[event_at(o[2], k)]
 }
 
-// The event that has the only timestamp, its number plus one; 0 where there is none, or several.
-fn only(w: u64) -> usize
-    ensures { (result < 256) × (0 < result → Only w result) }
+// The event that has the only timestamp, its number plus one; none where there is none, or several.
+fn only(w: u64) -> Option<usize>
+    ensures { IfSome result (λ n. (0 < n) × (n < 256) × Only w n) }
 {
-    let k = (u64::trailing_zeros(w) / 8) as usize;
+    let k = (w.trailing_zeros() / 8) as usize;
     let event = (w >> (8 * (k % 8))) as usize;
-    if event < 256 { event } else { 0 }
+    if 0 < event && event < 256 {
+        Some(event)
+    } else {
+        None
+    }
 }
 
 // ---- the join
@@ -84,9 +87,11 @@ fn later_of(i: usize, j: usize, ticks: &[u64]) -> usize
     requires { (i < length ticks.now) × (j < length ticks.now) }
     ensures { result ≡ later_of ticks.now i j }
 {
-    let s = LocalTick(ticks[i]);
-    let t = LocalTick(ticks[j]);
-    if s.earlier(t) { j } else { i }
+    if LocalTick(ticks[i]).earlier(LocalTick(ticks[j])) {
+        j
+    } else {
+        i
+    }
 }
 
 // Which events have the later timestamps, and the highest global tick of these plus one.
@@ -102,20 +107,14 @@ fn merged_of_four(a: u64, b: u64, ticks: &[u64], globals: &[u64]) -> Merge
     ensures { Bytes 4 (later_at ticks.now a b) result.events
         × Highest 4 (λ k. slice_index globals.now (later_at ticks.now a b k)) result.highest.0 }
 {
-    let mut r: u64 = 0;
-    let mut h = GlobalTick(0);
-    let mut k: usize = 0;
-    while k < 4 {
+    let mut events = 0;
+    let mut highest = GlobalTick(0);
+    for k in 0..4 {
         let n = later_of(event_at(a, k), event_at(b, k), ticks);
-        let g = GlobalTick(globals[n]);
-        h = h.latest(g);
-        r = r | (n as u64) << (8 * k);
-        k = k + 1;
+        highest = highest.latest(GlobalTick(globals[n]));
+        events |= (n as u64) << (8 * k);
     }
-    Merge {
-        events: r,
-        highest: h,
-    }
+    Merge { events, highest }
 }
 
 // Of each logger the later timestamp.
@@ -130,11 +129,9 @@ fn merged(a: u64, b: u64, ticks: &[u64], globals: &[u64]) -> Merge
         return low;
     }
     let high = merged_of_four(a >> 32, b >> 32, ticks, globals);
-    let first = low.highest;
-    let second = high.highest;
     Merge {
         events: low.events | high.events << 32,
-        highest: first.latest(second),
+        highest: low.highest.latest(high.highest),
     }
 }
 
@@ -143,8 +140,11 @@ fn kept(i: usize, highest: GlobalTick, globals: &[u64]) -> usize
     requires { i < length globals.now }
     ensures { result ≡ kept_of globals.now highest.0 i }
 {
-    let g = GlobalTick(globals[i]);
-    if g.clearly_earlier(highest) { 0 } else { i }
+    if GlobalTick(globals[i]).clearly_earlier(highest) {
+        0
+    } else {
+        i
+    }
 }
 
 // At the first four logger places those that are not clearly earlier.
@@ -152,14 +152,12 @@ fn settled_of_four(c: u64, highest: GlobalTick, globals: &[u64]) -> u64
     requires { Inside 4 globals.now c }
     ensures { Bytes 4 (λ k. kept_of globals.now highest.0 (byte_at c k)) result }
 {
-    let mut r: u64 = 0;
-    let mut k: usize = 0;
-    while k < 4 {
+    let mut events = 0;
+    for k in 0..4 {
         let n = kept(event_at(c, k), highest, globals);
-        r = r | (n as u64) << (8 * k);
-        k = k + 1;
+        events |= (n as u64) << (8 * k);
     }
-    r
+    events
 }
 
 // Those that are not clearly earlier.
@@ -182,18 +180,16 @@ fn joined(a: u64, b: u64, ticks: &[u64], globals: &[u64]) -> u64
         → ((k : ℕ) → k < 8 → Names t.stamps k (byte_at a k)) → ((k : ℕ) → k < 8 → Names t.stamps k (byte_at b k))
         → Settled globals.now (later_at ticks.now a b) result }
 {
-    let i = only(a);
-    let j = only(b);
-    if 0 < i {
-        if 0 < j {
-            let s = GlobalTick(globals[i]);
-            let t = GlobalTick(globals[j]);
-            if s.clearly_earlier(t) {
-                return b;
-            }
-            if t.clearly_earlier(s) {
-                return a;
-            }
+    if let Some(i) = only(a)
+        && let Some(j) = only(b)
+    {
+        let s = GlobalTick(globals[i]);
+        let t = GlobalTick(globals[j]);
+        if s.clearly_earlier(t) {
+            return b;
+        }
+        if t.clearly_earlier(s) {
+            return a;
         }
     }
     let m = merged(a, b, ticks, globals);
@@ -208,29 +204,16 @@ pub fn combined(a: &Packed, b: &Packed, ticks: &[u64], globals: &[u64]) -> Packe
         → Stands t result (combined_of t.clocks x y) }
 {
     let events = event_sets::union(events_of(a), events_of(b));
-    let mut c = [0u64; 3];
-    c[0] = events.low;
-    c[1] = events.high;
-    c[2] = joined(a[2], b[2], ticks, globals);
-    c
+    [events.low, events.high, joined(a[2], b[2], ticks, globals)]
 }
 
 // ---- the order
 
-// The local tick that is noted; the largest number for none.
-fn local_of(note: u64) -> LocalTick
-    ensures { (result.0 + 1) % 2 ^ 64 ≡ note }
+// The tick that is noted; the largest number for none.
+fn tick_of(note: u64) -> u64
+    ensures { (result + 1) % 2 ^ 64 ≡ note }
 {
-    let tick = std::num::wrapping_sub_u64(note, 1);
-    LocalTick(tick)
-}
-
-// The global tick that is noted; the largest number for none.
-fn global_of(note: u64) -> GlobalTick
-    ensures { (result.0 + 1) % 2 ^ 64 ≡ note }
-{
-    let tick = std::num::wrapping_sub_u64(note, 1);
-    GlobalTick(tick)
+    note.wrapping_sub(1)
 }
 
 // The lowest global tick at the first four logger places; the largest number where there is none.
@@ -238,12 +221,9 @@ fn lowest_of_four(w: u64, globals: &[u64]) -> GlobalTick
     requires { Inside 4 globals.now w }
     ensures { Lowest 4 (note_at globals.now w) result.0 }
 {
-    let mut low = GlobalTick(18446744073709551615);
-    let mut k: usize = 0;
-    while k < 4 {
-        let g = global_of(globals[event_at(w, k)]);
-        low = low.earliest(g);
-        k = k + 1;
+    let mut low = GlobalTick(u64::MAX);
+    for k in 0..4 {
+        low = low.earliest(GlobalTick(tick_of(globals[event_at(w, k)])));
     }
     low
 }
@@ -255,9 +235,8 @@ pub fn lowest(o: &Packed, globals: &[u64]) -> GlobalTick
     ensures { slice_index globals.now 0 ≡ 0 → LowestOf globals.now o.now result.0 }
 {
     let w = o[2];
-    let event = only(w);
-    if 0 < event {
-        return global_of(globals[event]);
+    if let Some(event) = only(w) {
+        return GlobalTick(tick_of(globals[event]));
     }
     let low = lowest_of_four(w, globals);
     let high = w >> 32;
@@ -271,9 +250,7 @@ pub fn lowest(o: &Packed, globals: &[u64]) -> GlobalTick
 fn own_before(v: u64, w: u64) -> bool
     ensures { 0 < w → result ≡ own_before v w }
 {
-    let s = local_of(v);
-    let t = local_of(w);
-    s.earlier(t)
+    LocalTick(tick_of(v)).earlier(LocalTick(tick_of(w)))
 }
 
 // Whether the event j of the second, at one logger place, has a timestamp before it: there the event i of the first, or of any logger the lowest of the first.
@@ -282,15 +259,9 @@ fn has_before(low: GlobalTick, i: usize, j: usize, ticks: &[u64], globals: &[u64
     ensures { (0 < slice_index ticks.now j → 0 < slice_index globals.now j)
         → result ≡ has_before low.0 (slice_index ticks.now i) (slice_index ticks.now j) (slice_index globals.now j) }
 {
-    let w = ticks[j];
-    if w == 0 {
-        return true;
-    }
-    if own_before(ticks[i], w) {
-        return true;
-    }
-    let g = global_of(globals[j]);
-    low.clearly_earlier(g)
+    ticks[j] == 0
+        || own_before(ticks[i], ticks[j])
+        || low.clearly_earlier(GlobalTick(tick_of(globals[j])))
 }
 
 // The same, where the second has a timestamp at that place.
@@ -299,10 +270,7 @@ fn is_reached(low: GlobalTick, i: usize, j: usize, ticks: &[u64], globals: &[u64
     ensures { (0 < slice_index ticks.now j → 0 < slice_index globals.now j)
         → result ≡ is_reached low.0 (slice_index ticks.now i) (slice_index ticks.now j) (slice_index globals.now j) }
 {
-    if ticks[j] == 0 {
-        return false;
-    }
-    has_before(low, i, j, ticks, globals)
+    ticks[j] != 0 && has_before(low, i, j, ticks, globals)
 }
 
 // Whether the first one's composite timestamp is before the second's, place by place of the second; with the lowest global tick of the first.
@@ -312,12 +280,10 @@ fn before(low: GlobalTick, a: &Packed, b: &Packed, ticks: &[u64], globals: &[u64
         → LowestOf globals.now a.now low.0 → Stands t a.now x → Stands t b.now y
         → result ≡ all_before t.clocks (members x.latest) (members y.latest) }
 {
-    let mut k: usize = 0;
-    while k < 8 {
+    for k in 0..8 {
         if !has_before(low, event_at(a[2], k), event_at(b[2], k), ticks, globals) {
             return false;
         }
-        k = k + 1;
     }
     true
 }
@@ -335,12 +301,10 @@ fn weakly_by_place(
         → LowestOf globals.now b.now first.0 → Stands t a.now x → Stands t b.now y
         → result ≡ stamps_weakly_before t.clocks (members x.latest) (members y.latest) }
 {
-    let mut k: usize = 0;
-    while k < 8 {
+    for k in 0..8 {
         if is_reached(first, event_at(b[2], k), event_at(a[2], k), ticks, globals) {
             return false;
         }
-        k = k + 1;
     }
     true
 }
@@ -366,13 +330,11 @@ fn order_by_place(
     if before(first, b, a, ticks, globals) {
         return Order::After;
     }
-    if !weakly_by_place(a, first, b, ticks, globals) {
-        return Order::Incomparable;
+    if weakly_by_place(a, first, b, ticks, globals) && weakly_by_place(b, low, a, ticks, globals) {
+        Order::Concurrent
+    } else {
+        Order::Incomparable
     }
-    if !weakly_by_place(b, low, a, ticks, globals) {
-        return Order::Incomparable;
-    }
-    Order::Concurrent
 }
 
 // The word for how the first one's composite timestamp stands to the second's; beside each its lowest global tick. Where these are clearly apart they decide.
@@ -414,11 +376,6 @@ pub fn weakly_before(
         → Stands t a.now x → Stands t b.now y
         → result ≡ is_weakly_before t.clocks x y }
 {
-    if own.clearly_earlier(other) {
-        return true;
-    }
-    if other.clearly_earlier(own) {
-        return false;
-    }
-    weakly_by_place(a, other, b, ticks, globals)
+    own.clearly_earlier(other)
+        || (!other.clearly_earlier(own) && weakly_by_place(a, other, b, ticks, globals))
 }

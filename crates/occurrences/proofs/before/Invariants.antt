@@ -1,10 +1,7 @@
 -- Each stamp of the second at a place before k has one before it.
-use Rattle.std.proofs.Common.{◌≡◌, ℕ, ◌-◌, ◌<◌, ◌≤◌, true}
+use Rattle.std.proofs.Common.{◌≡◌, ℕ, ◌<◌, true}
 use Rattle.occurrences.proofs.Befores.{Both, has_at}
 use Rattle.occurrences.proofs.before.Given as goal
 
 abbrev pub invariant-loop-k : goal.invariant-loop-k
-invariant-loop-k l = (l.k ≤ 8) × ((j : ℕ) → j < l.k → Both l.ticks l.globals l.a l.b j → has_at l.ticks l.globals l.a l.b j l.low.0 ≡ true)
-
-abbrev pub decreases-loop-k : goal.decreases-loop-k
-decreases-loop-k l = 8 - l.k
+invariant-loop-k l = ((j : ℕ) → j < l.k → Both l.ticks l.globals l.a l.b j → has_at l.ticks l.globals l.a l.b j l.low.0 ≡ true)

@@ -11,6 +11,5 @@ joined-requires c =
 
 pub returns : goal.returns
 returns c =
-    let u = c in
     λ n x y p q. combined_stands n x y _ _ p q _ _ (c.joined.ensures n p.sound.names q.sound.names)
-    (u.union-events.ensures ∙ ap₂ union_of u.events_of.ensures u.events_of-2.ensures)
+    (c.union-events.ensures ∙ ap₂ union_of c.events_of.ensures c.events_of-2.ensures)

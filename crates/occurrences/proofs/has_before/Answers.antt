@@ -3,23 +3,23 @@ use Rattle.occurrences.proofs.Befores.{clear_wraps}
 use Rattle.occurrences.specs.Steps.{has_before}
 use Rattle.timestamps.specs.Order.{clearly_earlier}
 use Rattle.std.proofs.Common.{sym, ◌∙◌, arith, rules, eq-eqb, ne_eqb}
+use Rattle.sequences.proofs.Booleans.{never_both}
 use Rattle.occurrences.proofs.has_before.Goals as goal
-
-pub returns-then-w-eq0 : goal.returns-then-w-eq0
-unfolding has_before
-returns-then-w-eq0 c = λ h. rw (eq-eqb _ _ c.if-w-eq0.true)
+use Rattle.occurrences.proofs.has_before.Goals.{then-ticks-j-eq0, else-ticks-j-eq0}
 
 pub returns-then-own_before : goal.returns-then-own_before
 unfolding has_before
-returns-then-own_before c =
-    let left = c.if-w-eq0.false in
-    λ h. rw (ne_eqb _ _ left, sym (c.own_before.ensures (omega (arith, left))) ∙ c.if-own_before.true)
+returns-then-own_before c = λ h. elim c.if-ticks-j-eq0.branch [
+  | then-ticks-j-eq0 w ↦ rw (eq-eqb _ _ w.if-ticks-j-eq0.true) c.if-own_before.true
+  | else-ticks-j-eq0 w ↦ let left = w.if-ticks-j-eq0.false in
+      rw (ne_eqb _ _ left, sym (w.own_before.ensures (omega (arith, left))) ∙ sym w.value-is ∙ c.if-own_before.true) c.if-own_before.true
+]
 
-pub returns : goal.returns
+pub returns-else-own_before : goal.returns-else-own_before
 unfolding has_before clearly_earlier
-returns c =
-    let g = c in
-    let own = g in
-    let left = own.if-w-eq0.false in
-    λ h. rw (ne_eqb _ _ left, sym (own.own_before.ensures (omega (arith, left))) ∙ own.if-own_before.false)
-    (c.clearly_earlier.ensures ∙ clear_wraps _ _ _ (search rules) g.global_of-g.ensures (h (omega (arith, left))))
+returns-else-own_before c = λ h. elim c.if-ticks-j-eq0.branch [
+  | then-ticks-j-eq0 w ↦ absurd (never_both (w.value-is ∙ eq-eqb _ _ w.if-ticks-j-eq0.true) c.if-own_before.false)
+  | else-ticks-j-eq0 w ↦ let left = w.if-ticks-j-eq0.false in
+      rw (ne_eqb _ _ left, sym (w.own_before.ensures (omega (arith, left))) ∙ sym w.value-is ∙ c.if-own_before.false)
+      (c.clearly_earlier.ensures ∙ clear_wraps _ _ _ (search rules) c.tick_of.ensures (h (omega (arith, left))))
+]

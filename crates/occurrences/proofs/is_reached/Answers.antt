@@ -1,15 +1,12 @@
 -- Where there is a timestamp, as `has_before` tells it.
 use Rattle.occurrences.specs.Steps.{is_reached}
-use Rattle.std.proofs.Common.{◌≡◌, get_or, eq-eqb, ne_eqb}
+use Rattle.std.proofs.Common.{eq-eqb, ne_eqb}
 use Rattle.occurrences.proofs.is_reached.Goals as goal
 
-pub returns-then-ticks-j-eq0 : goal.returns-then-ticks-j-eq0
+pub returns-then-ticks-j-ne0 : goal.returns-then-ticks-j-ne0
 unfolding is_reached
-returns-then-ticks-j-eq0 c =
-    let s = c in
-    let none : get_or s.args.ticks.now s.args.j 0 ≡ 0 = c.if-ticks-j-eq0.true in
-    λ h. rw (eq-eqb _ _ none)
+returns-then-ticks-j-ne0 c = λ h. rw (ne_eqb _ _ c.if-ticks-j-ne0.true) (c.has_before.ensures h)
 
-pub returns : goal.returns
+pub returns-else-ticks-j-ne0 : goal.returns-else-ticks-j-ne0
 unfolding is_reached
-returns c = λ h. rw (ne_eqb _ _ c.if-ticks-j-eq0.false) (c.has_before.ensures h)
+returns-else-ticks-j-ne0 c = λ h. rw (eq-eqb _ _ c.if-ticks-j-ne0.false)

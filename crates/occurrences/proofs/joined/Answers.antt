@@ -7,53 +7,35 @@ use Rattle.timestamps.specs.Order.{clearly_earlier}
 use Rattle.occurrences.proofs.joined.Goals as goal
 
 pub bounds-globals-i : goal.bounds-globals-i
-bounds-globals-i c =
-    let one = c in
-    let s = one in
-    only_inside _ _ (one.only-i.ensures.1 c.if-i-gt0.true) s.args.globals.now s.requires.2
+bounds-globals-i c = only_inside _ _ c.in-Some.ensures.2 c.args.globals.now c.requires.2
 
 pub bounds-globals-j : goal.bounds-globals-j
-bounds-globals-j c =
-    let two = c in
-    let s = two in
-    only_inside _ _ (two.only-j.ensures.1 c.if-j-gt0.true) s.args.globals.now s.requires.3
+bounds-globals-j c = only_inside _ _ c.in-Some-only.ensures.2 c.args.globals.now c.requires.3
 
 pub returns-then-clearly_earlier : goal.returns-then-clearly_earlier
 unfolding clearly_earlier
 returns-then-clearly_earlier c =
-    let in_both = c in
-    let two = in_both in
-    let one = two in
-    let s = one in
-    let apart : get_or s.args.globals.now one.only-i.result 0 + 1 < get_or s.args.globals.now two.only-j.result 0
+    let apart : get_or c.args.globals.now c.in-Some.i 0 + 1 < get_or c.args.globals.now c.in-Some-only.j 0
     = ltb-true _ _ (sym c.clearly_earlier.ensures ∙ c.if-clearly_earlier.true) in
-    λ t p q. second_settled t _ _ _ _ one.only-i.ensures.1 two.only-j.ensures.1 in_both.if-i-gt0.true in_both.if-j-gt0.true p q apart (search rules)
+    λ t p q. second_settled t _ _ _ _ c.in-Some.ensures.2 c.in-Some-only.ensures.2 p q apart (search rules)
 
 pub returns-then-clearly_earlier-2 : goal.returns-then-clearly_earlier-2
 unfolding clearly_earlier
 returns-then-clearly_earlier-2 c =
-    let in_both = c in
-    let two = in_both in
-    let one = two in
-    let s = one in
-    let apart : get_or s.args.globals.now two.only-j.result 0 + 1 < get_or s.args.globals.now one.only-i.result 0
-    = ltb-true _ _ (sym c.clearly_earlier-then-j-gt0.ensures ∙ c.if-clearly_earlier-2.true) in
-    λ t p q. first_settled t _ _ _ _ one.only-i.ensures.1 two.only-j.ensures.1 in_both.if-i-gt0.true in_both.if-j-gt0.true p q apart (search rules)
+    let apart : get_or c.args.globals.now c.in-Some-only.j 0 + 1 < get_or c.args.globals.now c.in-Some.i 0
+    = ltb-true _ _ (sym c.clearly_earlier-2.ensures ∙ c.if-clearly_earlier-2.true) in
+    λ t p q. first_settled t _ _ _ _ c.in-Some.ensures.2 c.in-Some-only.ensures.2 p q apart (search rules)
 
 pub settled-requires : goal.settled-requires
-settled-requires c =
-    let s = c in
-    λ k l. rw (c.merged-m.ensures.0.bytes k l) (later_one _ _ _ (λ n. n < length s.args.globals.now) (s.requires.2 k l) (s.requires.3 k l))
+settled-requires c = λ k l. rw (c.merged-m.ensures.0.bytes k l) (later_one _ _ _ (λ n. n < length c.args.globals.now) (c.requires.2 k l) (c.requires.3 k l))
 
 pub returns : goal.returns
 returns c =
-    let m = c in
-    let s = m in
     λ t p q. record {
-      highest = m.merged-m.result.highest.0;
-      top = m.merged-m.ensures.1 t.no_global;
+      highest = c.merged-m.result.highest.0;
+      top = c.merged-m.ensures.1 t.no_global;
       kept = record {
         size = c.settled.ensures.size;
-        bytes = λ k l. c.settled.ensures.bytes k l ∙ ap (kept_of s.args.globals.now m.merged-m.result.highest.0) (m.merged-m.ensures.0.bytes k l);
+        bytes = λ k l. c.settled.ensures.bytes k l ∙ ap (kept_of c.args.globals.now c.merged-m.result.highest.0) (c.merged-m.ensures.0.bytes k l);
       };
     }

@@ -11,27 +11,22 @@ merged_of_four-low-requires c =
 
 pub returns-then-a-b-eq0 : goal.returns-then-a-b-eq0
 returns-then-a-b-eq0 c =
-    let start = c in
     let first = c.merged_of_four-low.ensures in
-    let none = later-none start.args.ticks.now start.args.a start.args.b 4 in (
+    let none = later-none c.args.ticks.now c.args.a c.args.b 4 in (
       bytes-none 4 4 _ _ (λ j l. none j c.if-a-b-eq0.true) first.0,
-      λ z. highest-more 4 4 _ (λ j. 0) _ 0 _ (λ j l. sym (ap (λ n. get_or start.args.globals.now n 0) (none j c.if-a-b-eq0.true) ∙ z)) (omega arith) first.1
+      λ z. highest-more 4 4 _ (λ j. 0) _ 0 _ (λ j l. sym (ap (λ n. get_or c.args.globals.now n 0) (none j c.if-a-b-eq0.true) ∙ z)) (omega arith) first.1
           (highest_level 4 0 (omega arith)),
     )
 
 pub merged_of_four-high-requires : goal.merged_of_four-high-requires
 merged_of_four-high-requires c =
-    let s = c in
-    let p = s.requires in
+    let p = c.requires in
     (inside-last _ _ p.0, inside-last _ _ p.1, inside-last _ _ p.2, inside-last _ _ p.3)
 
 pub returns : goal.returns
 returns c =
-    let next = c in
-    let first = next in
-    let start = first in
-    let same = later_further start.args.ticks.now start.args.a start.args.b 4 in (
-      bytes-more 4 4 _ _ _ _ (omega arith) (λ j l. same j) first.merged_of_four-low.ensures.0 next.merged_of_four-high.ensures.0,
-      λ z. highest-more 4 4 _ _ _ _ _ (λ j l. ap (λ n. get_or start.args.globals.now n 0) (same j)) c.latest.ensures
-          first.merged_of_four-low.ensures.1 next.merged_of_four-high.ensures.1,
+    let same = later_further c.args.ticks.now c.args.a c.args.b 4 in (
+      bytes-more 4 4 _ _ _ _ (omega arith) (λ j l. same j) c.merged_of_four-low.ensures.0 c.merged_of_four-high.ensures.0,
+      λ z. highest-more 4 4 _ _ _ _ _ (λ j l. ap (λ n. get_or c.args.globals.now n 0) (same j)) c.latest.ensures
+          c.merged_of_four-low.ensures.1 c.merged_of_four-high.ensures.1,
     )

@@ -4,4 +4,4 @@ use Rattle.std.proofs.Common.{◌∙◌, rules}
 use Rattle.occurrences.proofs.own_before.Goals as goal
 
 pub returns : goal.returns
-returns c = λ p. c.earlier.ensures ∙ own_wraps _ _ _ _ (search rules) (search rules) c.local_of-s.ensures c.local_of-t.ensures p
+returns c = λ p. c.earlier.ensures ∙ own_wraps _ _ _ _ (search rules) (search rules) c.tick_of.ensures c.tick_of-2.ensures p

@@ -8,16 +8,12 @@ pub settled_of_four-low-requires : goal.settled_of_four-low-requires
 settled_of_four-low-requires c = inside-first _ _ c.requires
 
 pub returns-then-c-eq0 : goal.returns-then-c-eq0
-returns-then-c-eq0 c =
-    let start = c in
-    bytes-none 4 4 _ _ (λ j l. kept-none _ _ _ (byte_none start.args.c 4 j c.if-c-eq0.true)) c.settled_of_four-low.ensures
+returns-then-c-eq0 c = bytes-none 4 4 _ _ (λ j l. kept-none _ _ _ (byte_none c.args.c 4 j c.if-c-eq0.true)) c.settled_of_four-low.ensures
 
 pub settled_of_four-requires : goal.settled_of_four-requires
 settled_of_four-requires c = inside-last _ _ c.requires
 
 pub returns : goal.returns
 returns c =
-    let first = c in
-    let start = first in
-    bytes-more 4 4 _ _ _ _ (omega arith) (λ j l. ap (kept_of start.args.globals.now start.args.highest.0) (byte_further start.args.c 4 j))
-    first.settled_of_four-low.ensures c.settled_of_four.ensures
+    bytes-more 4 4 _ _ _ _ (omega arith) (λ j l. ap (kept_of c.args.globals.now c.args.highest.0) (byte_further c.args.c 4 j))
+    c.settled_of_four-low.ensures c.settled_of_four.ensures

@@ -2,7 +2,7 @@
 use Rattle.occurrences.specs.Occurrences.{is_weakly_before}
 use Rattle.occurrences.proofs.Befores.{before_clear}
 use Rattle.occurrences.proofs.Seen.{stands-composite}
-use Rattle.std.proofs.Common.{◌+◌, ◌<◌, sym, ◌∙◌, ltb-true}
+use Rattle.std.proofs.Common.{◌+◌, ◌<◌, not, sym, ap, ◌∙◌, ltb-true}
 use Rattle.timestamps.specs.Order.{clearly_earlier}
 use Rattle.timestamps.proofs.Composites.{before-weakly}
 use Rattle.timestamps.proofs.Words.{after_not_weakly}
@@ -11,17 +11,15 @@ use Rattle.occurrences.proofs.weakly_before.Goals as goal
 pub returns-then-clearly_earlier : goal.returns-then-clearly_earlier
 unfolding is_weakly_before clearly_earlier
 returns-then-clearly_earlier c =
-    let s = c in
-    let apart : s.args.own.0 + 1 < s.args.other.0 = ltb-true _ _ (sym c.clearly_earlier.ensures ∙ c.if-clearly_earlier.true) in
-    λ t x y l f p q. sym (before-weakly t.clocks _ _ (stands-composite t _ x p) (before_clear t x y _ _ p q _ l _ f apart))
+    let apart : c.args.own.0 + 1 < c.args.other.0 = ltb-true _ _ (sym c.clearly_earlier.ensures ∙ c.if-clearly_earlier.true) in
+    λ t x y l f p q. c.if-clearly_earlier.true ∙ sym (before-weakly t.clocks _ _ (stands-composite t _ x p) (before_clear t x y _ _ p q _ l _ f apart))
 
-pub returns-then-clearly_earlier-2 : goal.returns-then-clearly_earlier-2
-unfolding is_weakly_before clearly_earlier
-returns-then-clearly_earlier-2 c =
-    let s = c in
-    let apart : s.args.other.0 + 1 < s.args.own.0 = ltb-true _ _ (sym c.clearly_earlier-2.ensures ∙ c.if-clearly_earlier-2.true) in
-    λ t x y l f p q. sym (after_not_weakly t.clocks _ _ (stands-composite t _ x p).some.1 (before_clear t y x _ _ q p _ f _ l apart))
-
-pub returns : goal.returns
+pub returns-then-not-clearly_earlier : goal.returns-then-not-clearly_earlier
 unfolding is_weakly_before
-returns c = λ t x y l f p q. c.weakly_by_place.ensures t x y f p q
+returns-then-not-clearly_earlier c = λ t x y l f p q. c.weakly_by_place.ensures t x y f p q
+
+pub returns-else-not-clearly_earlier : goal.returns-else-not-clearly_earlier
+unfolding is_weakly_before clearly_earlier
+returns-else-not-clearly_earlier c =
+    let apart : c.args.other.0 + 1 < c.args.own.0 = ltb-true _ _ (sym c.clearly_earlier-else-clearly_earlier.ensures ∙ c.if-not-clearly_earlier.false) in
+    λ t x y l f p q. ap not c.if-not-clearly_earlier.false ∙ sym (after_not_weakly t.clocks _ _ (stands-composite t _ x p).some.1 (before_clear t y x _ _ q p _ f _ l apart))

@@ -4,7 +4,4 @@ use Rattle.std.proofs.Common.{get_or, sym, ap, ◌∙◌}
 use Rattle.occurrences.proofs.word_at.Goals as goal
 
 pub returns : goal.returns
-returns c =
-    let one = c in
-    let s = one in
-    ap (λ n. get_or s.args.ticks.now n 0) one.event_at.ensures.0 ∙ sym (word_of s.args.ticks.now s.args.o.now _ s.requires.0)
+returns c = ap (λ n. get_or c.args.ticks.now n 0) c.event_at.ensures.0 ∙ sym (word_of c.args.ticks.now c.args.o.now _ c.requires.0)
