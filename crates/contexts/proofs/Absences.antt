@@ -1,44 +1,42 @@
 -- Which lefts no waiting middle blocks.
-use Rattle.std.proofs.Common.{◌≡◌, ℕ, ◌+◌, ◌<◌, ◌≤◌, Bool, true, false, not, ◌&&◌, List, [], ◌∷◌, map, length, get_or, take, drop, refl, ap, add-one, arith, drop_of_length-le, take_all, drop-cons}
-use borrow.Author.Tests.{not-true, not-false}
+use Rattle.std.proofs.Common.{◌≡◌, ℕ, ◌+◌, ◌<◌, ◌≤◌, Bool, true, false, not, ◌&&◌, List, [], ◌∷◌, map, length, get_or, take, drop, refl, ap, add-one, arith, drop_of_length-le, length-take-le, get_or-take, take_all, drop-cons}
 use Rattle.sequences.specs.Marks.{padded}
 use Rattle.sequences.specs.Select.{some_passes}
 use Rattle.timestamps.specs.Order.{Clocks}
 use Rattle.occurrences.specs.declared.Occurrence.{Occurrence}
-use Rattle.occurrences.specs.Occurrences.{is_before, is_weakly_before}
+use Rattle.occurrences.specs.Occurrences.{is_before, is_weakly_before, no_occurrence}
 use Rattle.contexts.specs.Choice.{absence_candidates, blocks, seq_candidates}
 
--- ---- a loop over a list that looks for one
-module _ (p : Occurrence → Bool) (l : List Occurrence) (i : ℕ) where
-  pub any_here : (d : Occurrence) → i < length l → p (get_or l i d) ≡ true → some_passes p (drop i l) ≡ true
-  unfolding some_passes
-  any_here d h e = rw (drop-cons l i d, e)
+-- ---- a loop over the first n of a list that looks for one
+module _ (p : Occurrence → Bool) (l : List Occurrence) (n : ℕ) (most : n ≤ length l) (i : ℕ) where
+  module _ (more : i < n) where
+    in_those : i < length (take n l)
+    in_those = omega (arith, length-take-le n l most)
 
-  pub any_later : (d : Occurrence) → i < length l → p (get_or l i d) ≡ false → some_passes p (drop i l) ≡ some_passes p (drop (i + 1) l)
-  unfolding some_passes
-  any_later d h e = rw (add-one, drop-cons l i d, e)
+    here : get_or (take n l) i no_occurrence ≡ get_or l i no_occurrence
+    here = get_or-take n l i no_occurrence more
 
-  pub any_past : length l ≤ i → some_passes p (drop i l) ≡ false
+    pub any_here : p (get_or l i no_occurrence) ≡ true → some_passes p (drop i (take n l)) ≡ true
+    unfolding some_passes
+    any_here e = rw (drop-cons (take n l) i no_occurrence in_those, here, e)
+
+    pub any_later : p (get_or l i no_occurrence) ≡ false → some_passes p (drop i (take n l)) ≡ some_passes p (drop (i + 1) (take n l))
+    unfolding some_passes
+    any_later e = rw (add-one, drop-cons (take n l) i no_occurrence in_those, here, e)
+
+  pub any_past : n ≤ i → some_passes p (drop i (take n l)) ≡ false
   unfolding some_passes
-  any_past h = rw (drop_of_length-le l h)
+  any_past h = let past : length (take n l) ≤ i = omega (arith, length-take-le n l most) in rw (drop_of_length-le (take n l) past)
 
 -- ---- by both words
 module _ (clocks : Clocks) (x z y : Occurrence) (r : Bool) (e : r ≡ is_weakly_before clocks x y) where
-  pub passed_by : not r ≡ true → false ≡ blocks clocks x z y
+  pub passed_by : r ≡ false → r ≡ blocks clocks x z y
   unfolding blocks
-  passed_by h = rw (← e, not-true r h)
+  passed_by h = rw (← e, h)
 
-  pub blocked_by : not r ≡ false → (s : Bool) → s ≡ is_weakly_before clocks y z → s ≡ blocks clocks x z y
+  pub blocked_by : r ≡ true → (s : Bool) → s ≡ is_weakly_before clocks y z → s ≡ blocks clocks x z y
   unfolding blocks
-  blocked_by h s f = rw (← e, not-false r h) f
-
--- ---- before the third arrival, and not blocked
-module _ (clocks : Clocks) (x z : Occurrence) (middles : List Occurrence) (is : Bool) (e : is ≡ is_before clocks x z) where
-  pub not_free : not is ≡ true → false ≡ (is_before clocks x z && not (some_passes (blocks clocks x z) middles))
-  not_free h = rw (← e, not-true is h)
-
-  pub free_by : not is ≡ false → (r : Bool) → r ≡ some_passes (blocks clocks x z) middles → not r ≡ (is_before clocks x z && not (some_passes (blocks clocks x z) middles))
-  free_by h r f = rw (← e, not-false is h, f)
+  blocked_by h s f = rw (← e, h) f
 
 -- ---- for callers: without middles that block, those before it; with all of them, the candidates of absence
 module _ (clocks : Clocks) (lefts middles : List Occurrence) (o : Occurrence) where

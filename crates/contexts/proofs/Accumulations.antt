@@ -1,5 +1,5 @@
 -- What is accumulated: the lefts, the arrival and the middles between.
-use Rattle.std.proofs.Common.{◌≡◌, ◌<◌, Bool, true, false, ◌&&◌, List, ◌∷◌, ◌++◌, map, length, get_or, set, sym, refl, ap, ◌∙◌}
+use Rattle.std.proofs.Common.{◌≡◌, ℕ, ◌<◌, Bool, true, false, ◌&&◌, List, ◌∷◌, ◌++◌, map, length, get_or, set, sym, refl, ap, ◌∙◌, arith}
 use mathlib.Core.List.{zip_with}
 use Rattle.sequences.specs.Loops.{fold}
 use Rattle.sequences.specs.Marks.{first_mark, marked, padded}
@@ -16,15 +16,18 @@ use Rattle.contexts.specs.Choice.{seq_candidates}
 use Rattle.contexts.specs.Made.{accumulation_of, is_between}
 use Rattle.contexts.specs.Steps.{Some, after_marks}
 
--- ---- one of those marked after the other
-module _ (l : List Occurrence) (m m' : List Bool) (p : Occurrence → Bool) (in_l : first_mark m < length l) (in-m : first_mark m < length m) where
-  pub some-here : p (get_or l (first_mark m) no_occurrence) ≡ true → true ≡ some_passes p (marked l m)
-  unfolding some_passes
-  some-here e = rw (marked-first l m no_occurrence in_l in-m, e)
+-- ---- one of those marked after the other; i is the first
+module _ (p : Occurrence → Bool) (l : List Occurrence) (m : List Bool) (i : ℕ) (at : i ≡ first_mark m) (in_l : i < length l) (in-m : i < length m) where
+  first_of : marked l m ≡ get_or l i no_occurrence ∷ marked l (set m (first_mark m) false)
+  first_of = rw at (marked-first l m no_occurrence (omega arith) (omega arith))
 
-  pub some-later : p (get_or l (first_mark m) no_occurrence) ≡ false → m' ≡ set m (first_mark m) false → some_passes p (marked l m') ≡ some_passes p (marked l m)
+  pub some-here : p (get_or l i no_occurrence) ≡ true → true ≡ some_passes p (marked l m)
   unfolding some_passes
-  some-later e same = rw (marked-first l m no_occurrence in_l in-m, e, same)
+  some-here e = rw (first_of, e)
+
+  pub some-later : p (get_or l i no_occurrence) ≡ false → (rest : List Bool) → rest ≡ set m (first_mark m) false → some_passes p (marked l rest) ≡ some_passes p (marked l m)
+  unfolding some_passes
+  some-later e rest same = rw (first_of, e, same)
 
 -- ---- the middles between
 and-turned : (a b : Bool) → (a && b) ≡ (b && a)

@@ -2,7 +2,7 @@
 use Rattle.std.proofs.Common.{◌≡◌, ℕ, zero, suc, ◌+◌, ◌<◌, ◌≤◌, Bool, true, false, not, ◌&&◌, eqb, List, [], ◌∷◌, map, length, get_or, take, drop, set, replicate, sym, refl, ap, ◌∙◌, subst, arith, get_or-set_other, get_or-set_same, eq-eqb, ne_eqb}
 use mathlib.Core.Bool.{and-false}
 use mathlib.Core.List.{zip_with}
-use borrow.Author.Tests.{not-true, not-false}
+use denote.Enum.Bare.{sameb}
 use native.Mathlib.Decide.{ℕ_discrete}
 use lib.Bits.{bit_and, bit_xor}
 use lib.ListN.{length-map}
@@ -14,9 +14,11 @@ use Rattle.sequences.proofs.Arrays.{get_or_zip, length_zip}
 use Rattle.sequences.proofs.Parts.{get_or_map}
 use Rattle.sequences.proofs.Marks.{any_marked_no, any_marked_yes, fold-marked, padded-start}
 use Rattle.sequences.proofs.Select.{any_none}
+use Rattle.timestamps.specs.declared.GlobalTick.{GlobalTick}
 use Rattle.timestamps.specs.declared.Order.{Order}
-use Rattle.timestamps.specs.declared.Order.TheVariants.{Before, After}
-use Rattle.timestamps.specs.Comparison.{same_order}
+use Rattle.timestamps.specs.declared.Order.TheVariants.{Incomparable, Before, After, Concurrent}
+use Rattle.timestamps.specs.contracts.Order.{the_type}
+use Rattle.timestamps.specs.Comparison.{order_number, same_order}
 use Rattle.timestamps.specs.Composite.{IsComposite, members}
 use Rattle.timestamps.specs.Order.{Clocks}
 use Rattle.occurrences.specs.declared.Occurrence.{Occurrence}
@@ -28,66 +30,37 @@ use Rattle.waiting_lists.specs.declared.WaitingList.{WaitingList}
 use Rattle.waiting_lists.specs.Lists.{list_of, place_in}
 use Rattle.waiting_lists.specs.Marks.{marks_of}
 use Rattle.waiting_lists.proofs.Marks.{length_marks, marks_and, marks_less, marks_turn, padded-next}
-use Rattle.contexts.specs.declared.Row.{Row}
 use Rattle.contexts.specs.Choice.{and_candidates, chosen, removed_of, removes, taken_of, takes}
-use Rattle.contexts.specs.Steps.{Lows, bars_by, bars_of}
-use Rattle.contexts.specs.Table.{Taken, latest, earliest, every, each, together, untaken, taken, all, joins, consumed, Context, takes_of, finds_of, removes_of, afterwards_of, context_of}
-
--- ---- codes
-module _ (code : ℕ) where
-  pub code_latest : code ≡ 0 → takes_of code ≡ latest
-  unfolding takes_of
-  code_latest e = rw (eq-eqb code 0 e)
-
-  pub code_earliest : (code ≡ 0 → ⊥) → code ≡ 1 → takes_of code ≡ earliest
-  unfolding takes_of
-  code_earliest n e = rw (ne_eqb code 0 n, eq-eqb code 1 e)
-
-  pub code_every : (code ≡ 0 → ⊥) → (code ≡ 1 → ⊥) → takes_of code ≡ every
-  unfolding takes_of
-  code_every n o = rw (ne_eqb code 0 n, ne_eqb code 1 o)
-
-  pub code_untaken : code ≡ 0 → removes_of code ≡ untaken
-  unfolding removes_of
-  code_untaken e = rw (eq-eqb code 0 e)
-
-  pub code_taken : (code ≡ 0 → ⊥) → code ≡ 1 → removes_of code ≡ taken
-  unfolding removes_of
-  code_taken n e = rw (ne_eqb code 0 n, eq-eqb code 1 e)
-
-  pub code_all : (code ≡ 0 → ⊥) → (code ≡ 1 → ⊥) → removes_of code ≡ all
-  unfolding removes_of
-  code_all n o = rw (ne_eqb code 0 n, ne_eqb code 1 o)
-
-  pub code_each : code ≡ 0 → finds_of code ≡ each
-  unfolding finds_of
-  code_each e = rw (eq-eqb code 0 e)
-
-  pub code_together : (code ≡ 0 → ⊥) → finds_of code ≡ together
-  unfolding finds_of
-  code_together n = rw (ne_eqb code 0 n)
+use Rattle.contexts.specs.Steps.{Lows, bars_by, bars_of, no_tick}
+use Rattle.contexts.specs.Table.{Taken, latest, earliest, every, untaken, taken, all}
 
 -- ---- one candidate against another
--- what is no candidate does nothing
-pub unmarked_off : (b x : Bool) → not b ≡ true → false ≡ (b && x)
-unmarked_off b x e = rw (not-true b e)
+-- a test of one that is marked, and of one that is not
+pub marked_on : (b x r : Bool) → b ≡ true → r ≡ x → r ≡ (b && x)
+marked_on b x r e f = rw e f
 
-pub marked_on : (b x r : Bool) → not b ≡ false → r ≡ x → r ≡ (b && x)
-marked_on b x r e f = rw (not-false b e) f
+pub unmarked_off : (b x r : Bool) → b ≡ false → r ≡ b → r ≡ (b && x)
+unmarked_off b x r e f = f ∙ rw e
 
--- what a rule's code makes of a word
-module _ (code : ℕ) (word : Order) where
-  pub bars_latest : code ≡ 0 → bars_by (takes_of code) word ≡ same_order word Before
-  unfolding bars_by
-  bars_latest e = rw (code_latest code e)
+-- words are compared by `==` in the code, and by their numbers in the definitions
+pub is-before : (word : Order) → sameb the_type word Before ≡ same_order word Before
+unfolding same_order order_number
+is-before Incomparable = refl
+is-before Before = refl
+is-before After = refl
+is-before Concurrent = refl
 
-  pub bars_earliest : (code ≡ 0 → ⊥) → code ≡ 1 → bars_by (takes_of code) word ≡ same_order word After
-  unfolding bars_by
-  bars_earliest n e = rw (code_earliest code n e)
+pub is-after : (word : Order) → sameb the_type word After ≡ same_order word After
+unfolding same_order order_number
+is-after Incomparable = refl
+is-after Before = refl
+is-after After = refl
+is-after Concurrent = refl
 
-  pub bars_every : (code ≡ 0 → ⊥) → (code ≡ 1 → ⊥) → bars_by (takes_of code) word ≡ false
-  unfolding bars_by
-  bars_every n o = rw (code_every code n o)
+-- so the word of a to b tells whether a is before b
+pub before_told : (clocks : Clocks) (a b : Occurrence) (word : Order) (r : Bool) → r ≡ sameb the_type word Before → word ≡ occurrence_order clocks a b → r ≡ is_before clocks a b
+unfolding is_before
+before_told clocks a b word r e is = e ∙ is-before word ∙ ap (λ v. same_order v Before) is
 
 -- the word of w to c tells whether c keeps w from being taken
 pub word_tells : (t : Taken) (clocks : Clocks) (w c : Occurrence) → IsComposite clocks (members w.latest) → bars_by t (occurrence_order clocks w c) ≡ bars_of t clocks w c
@@ -97,31 +70,27 @@ word_tells earliest clocks w c h = after_turned clocks w c h
 word_tells every clocks w c h = refl
 
 -- the lowest of one more
-pub lows_turn : (globals : List ℕ) (w : List (List ℕ)) (lows : List ℕ) (list : WaitingList) (i place v : ℕ) → list ≡ list_of w → place ≡ place_in list.order i + 1 → i < length lows
-    → LowestOf globals (get_or w place []) v → Lows globals w i lows → Lows globals w (i + 1) (set lows i v)
+pub lows_turn : (globals : List ℕ) (w : List (List ℕ)) (lows : List GlobalTick) (list : WaitingList) (i place : ℕ) (v : GlobalTick) → list ≡ list_of w → place ≡ place_in list.order i + 1 → i < length lows
+    → LowestOf globals (get_or w place []) v.0 → Lows globals w i lows → Lows globals w (i + 1) (set lows i v)
 lows_turn globals w lows list i place v is p h e l =
     let q : place ≡ place_in (list_of w).order i + 1 = p ∙ ap (λ (x : WaitingList). place_in x.order i + 1) is in
-    next_place (λ j. LowestOf globals (get_or w (place_in (list_of w).order j + 1) []) (get_or (set lows i v) j 0)) i
-    (λ j m. rw (get_or-set_other lows i j v 0 (λ d. omega (arith, d, m))) (l j m))
-    (rw (get_or-set_same lows i v 0 h, ← q) e)
+    next_place (λ j. LowestOf globals (get_or w (place_in (list_of w).order j + 1) []) (get_or (set lows i v) j no_tick).0) i
+    (λ j m. rw (get_or-set_other lows i j v no_tick (λ d. omega (arith, d, m))) (l j m))
+    (rw (get_or-set_same lows i v no_tick h, ← q) e)
 
 -- what is kept of one that the code reads
-pub lows_at : (globals : List ℕ) (w : List (List ℕ)) (lows : List ℕ) (list : WaitingList) (n i place : ℕ) → list ≡ list_of w → place ≡ place_in list.order i + 1 → i < n → Lows globals w n lows
-    → LowestOf globals (get_or w place []) (get_or lows i 0)
+pub lows_at : (globals : List ℕ) (w : List (List ℕ)) (lows : List GlobalTick) (list : WaitingList) (n i place : ℕ) → list ≡ list_of w → place ≡ place_in list.order i + 1 → i < n → Lows globals w n lows
+    → LowestOf globals (get_or w place []) (get_or lows i no_tick).0
 lows_at globals w lows list n i place is p h l =
     let q : place ≡ place_in (list_of w).order i + 1 = p ∙ ap (λ (x : WaitingList). place_in x.order i + 1) is in
-    subst (λ (m : ℕ). LowestOf globals (get_or w m []) (get_or lows i 0)) (sym q) (l i h)
+    subst (λ (m : ℕ). LowestOf globals (get_or w m []) (get_or lows i no_tick).0) (sym q) (l i h)
 
 -- a candidate is taken where no candidate bars it
-takes_unbarred : (t : Taken) (clocks : Clocks) (candidates : List Occurrence) (w : Occurrence) → not (some_passes (bars_of t clocks w) candidates) ≡ takes t clocks candidates w
+pub takes_unbarred : (t : Taken) (clocks : Clocks) (candidates : List Occurrence) (w : Occurrence) → not (some_passes (bars_of t clocks w) candidates) ≡ takes t clocks candidates w
 unfolding bars_of takes
 takes_unbarred latest clocks candidates w = refl
 takes_unbarred earliest clocks candidates w = refl
 takes_unbarred every clocks candidates w = rw (any_none (λ c. false) candidates (λ c m. refl))
-
-module _ (mark : Bool) (code : ℕ) (clocks : Clocks) (candidates : List Occurrence) (w : Occurrence) (on : not mark ≡ false) where
-  pub taken_unbarred : (r : Bool) → r ≡ some_passes (bars_of (takes_of code) clocks w) candidates → not r ≡ (mark && takes (takes_of code) clocks candidates w)
-  taken_unbarred r e = rw (not-false mark on, e) (takes_unbarred (takes_of code) clocks candidates w)
 
 -- ---- marks that a loop fills, for 16 places
 module _ (l : List Occurrence) (m : List Bool) (i : ℕ) (in_list : i < length l) (few : length l ≤ 16) where
@@ -199,12 +168,10 @@ all_taken (suc n) (a ∷ l) (b ∷ m) h k =
     ∙ ap (λ r. (b && true) ∷ r) (all_taken n l m (omega arith) (omega arith))
     ∙ sym (padded-next n (b && true) (zip_with (λ w c. c && true) l m))
 
-pub every_taken : (code : ℕ) (clocks : Clocks) (waiting : List Occurrence) (c r : ℕ) → 2 ≤ code → length waiting ≤ 16 → marks_of r ≡ and_candidates waiting
-    → marks_of (bit_and c r) ≡ taken_of (takes_of code) clocks waiting (marks_of c)
+pub every_taken : (clocks : Clocks) (waiting : List Occurrence) (c r : ℕ) → length waiting ≤ 16 → marks_of r ≡ and_candidates waiting
+    → marks_of (bit_and c r) ≡ taken_of every clocks waiting (marks_of c)
 unfolding and_candidates taken_of takes
-every_taken code clocks waiting c r h few e =
-    rw (code_every code (λ z. omega (arith, z)) (λ z. omega (arith, z)))
-    (marks_and c r ∙ ap (zip_with ◌&&◌ (marks_of c)) e ∙ all_taken 16 waiting (marks_of c) (length_marks c) few)
+every_taken clocks waiting c r few e = marks_and c r ∙ ap (zip_with ◌&&◌ (marks_of c)) e ∙ all_taken 16 waiting (marks_of c) (length_marks c) few
 
 -- ---- the choice
 -- one of two rows of marks
@@ -221,42 +188,18 @@ zip_right [] (y ∷ b) e = absurd (omega arith)
 zip_right (x ∷ a) [] e = absurd (omega arith)
 zip_right (x ∷ a) (y ∷ b) e = ap (λ r. y ∷ r) (zip_right a b (omega arith))
 
-module _ (code c t : ℕ) where
+module _ (c t : ℕ) where
   as_long : length (marks_of c) ≡ length (marks_of t)
   as_long = length_marks c ∙ sym (length_marks t)
 
-  pub removed_untaken : code ≡ 0 → marks_of (bit_xor c (bit_and c t)) ≡ removed_of (removes_of code) (marks_of c) (marks_of t)
+  pub removed_untaken : marks_of (bit_xor c (bit_and c t)) ≡ removed_of untaken (marks_of c) (marks_of t)
   unfolding removed_of removes
-  removed_untaken e = rw (code_untaken code e) (marks_less c t)
+  removed_untaken = marks_less c t
 
-  pub removed-taken : (code ≡ 0 → ⊥) → code ≡ 1 → marks_of t ≡ removed_of (removes_of code) (marks_of c) (marks_of t)
+  pub removed-taken : marks_of t ≡ removed_of taken (marks_of c) (marks_of t)
   unfolding removed_of removes
-  removed-taken n e = rw (code_taken code n e) (sym (zip_right (marks_of c) (marks_of t) as_long))
+  removed-taken = sym (zip_right (marks_of c) (marks_of t) as_long)
 
-  pub removed_all : (code ≡ 0 → ⊥) → (code ≡ 1 → ⊥) → marks_of c ≡ removed_of (removes_of code) (marks_of c) (marks_of t)
+  pub removed_all : marks_of c ≡ removed_of all (marks_of c) (marks_of t)
   unfolding removed_of removes
-  removed_all n o = rw (code_all code n o) (sym (zip_left (marks_of c) (marks_of t) as_long))
-
-pub chosen_is : (clocks : Clocks) (x : Context) (row : Row) (waiting : List Occurrence) (candidates t r : List Bool) → context_of row ≡ x
-    → t ≡ taken_of (takes_of row.taken) clocks waiting candidates → r ≡ removed_of (removes_of row.removed) candidates t
-    → (t ≡ (chosen x clocks waiting candidates).taken) × (r ≡ (chosen x clocks waiting candidates).removed)
-unfolding chosen context_of
-chosen_is clocks x row waiting candidates t r e f g = rw (← e) (f, g ∙ ap (removed_of (removes_of row.removed) candidates) f)
-
--- ---- what is made
-pub finds-each : (x : Context) (row : Row) → context_of row ≡ x → row.findings ≡ 0 → x.finds ≡ each
-unfolding context_of
-finds-each x row e f = sym (ap (λ s. s.finds) e) ∙ code_each row.findings f
-
-pub finds_together : (x : Context) (row : Row) → context_of row ≡ x → (row.findings ≡ 0 → ⊥) → x.finds ≡ together
-unfolding context_of
-finds_together x row e n = sym (ap (λ s. s.finds) e) ∙ code_together row.findings n
-
--- ---- of an arrival that met candidates
-pub afterwards-joins : (x : Context) (row : Row) → context_of row ≡ x → row.afterwards ≡ 0 → x.afterwards ≡ joins
-unfolding context_of afterwards_of
-afterwards-joins x row e f = sym (ap (λ s. s.afterwards) e) ∙ rw f
-
-pub afterwards_consumed : (x : Context) (row : Row) → context_of row ≡ x → (row.afterwards ≡ 0 → ⊥) → x.afterwards ≡ consumed
-unfolding context_of afterwards_of
-afterwards_consumed x row e n = sym (ap (λ s. s.afterwards) e) ∙ rw (ne_eqb row.afterwards 0 n)
+  removed_all = sym (zip_left (marks_of c) (marks_of t) as_long)

@@ -1,8 +1,9 @@
 -- What the functions compute step by step. Readers of the promises need none of these: the laws tie each to the definitions beside this file.
-use Rattle.std.specs.Prelude.{◌≡◌, ℕ, ◌+◌, ◌<◌, Bool, false, ◌&&◌, List, [], ◌∷◌, slice_index, slice_index_or}
+use Rattle.std.specs.Prelude.{◌≡◌, ℕ, ◌+◌, ◌<◌, Bool, false, ◌&&◌, List, [], ◌∷◌, slice_index_or}
 use mathlib.Core.List.{zip_with}
 use Rattle.sequences.specs.Marks.{padded}
 use Rattle.sequences.specs.Select.{some_passes}
+use Rattle.timestamps.specs.declared.GlobalTick.{GlobalTick}
 use Rattle.timestamps.specs.declared.Order.{Order}
 use Rattle.timestamps.specs.declared.Order.TheVariants.{Before, After}
 use Rattle.timestamps.specs.Comparison.{same_order}
@@ -25,9 +26,13 @@ bars_by latest word = same_order word Before
 bars_by earliest word = same_order word After
 bars_by every word = false
 
+-- what is read past the end of those ticks
+abbrev pub no_tick : GlobalTick
+no_tick = record { 0 = 0 }
+
 -- the lowest global tick of each of the first n that wait
-abbrev pub Lows : List ℕ → List (List ℕ) → ℕ → List ℕ → Type 0
-Lows globals w n lows = (i : ℕ) → i < n → LowestOf globals (slice_index_or w (place_in (list_of w).order i + 1) []) (slice_index lows i)
+abbrev pub Lows : List ℕ → List (List ℕ) → ℕ → List GlobalTick → Type 0
+Lows globals w n lows = (i : ℕ) → i < n → LowestOf globals (slice_index_or w (place_in (list_of w).order i + 1) []) (slice_index_or lows i no_tick).0
 
 -- of the middles marked, the marks of those after one of these lefts
 unfoldable pub after_marks : Clocks → (lefts middles : List Occurrence) → List Bool → List Bool

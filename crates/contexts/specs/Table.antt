@@ -1,30 +1,64 @@
 -- Document 01, "How an event is worked": one table of four rows says what each context takes and what it removes.
-use Rattle.std.specs.Prelude.{ℕ, ◌-◌, List, [], ◌∷◌, ◌==◌, slice_index_or}
-use Rattle.sequences.specs.Choice.{pick}
-use Rattle.contexts.specs.declared.Row.{Row}
+use Rattle.std.specs.Prelude.{ℕ, ◌-◌, List, [], ◌∷◌, slice_index_or}
+use Rattle.contexts.specs.declared.Taken as of_taken
+use Rattle.contexts.specs.declared.Taken.TheVariants.{Latest, Earliest, Every}
+use Rattle.contexts.specs.declared.Found as of_found
+use Rattle.contexts.specs.declared.Found.TheVariants.{Each, Together}
+use Rattle.contexts.specs.declared.Removed as of_removed
+use Rattle.contexts.specs.declared.Removed.TheVariants.{Untaken, Taken as TheTaken, All}
+use Rattle.contexts.specs.declared.Afterwards as of_afterwards
+use Rattle.contexts.specs.declared.Afterwards.TheVariants.{Joins, Consumed}
+use Rattle.contexts.specs.declared.Context as of_context
 
 -- Taken: candidates before no other candidate; candidates with no other candidate before them; all
-pub data Taken : Type 0 where
-  latest earliest every : Taken
+abbrev pub Taken : Type 0
+Taken = of_taken.Taken
+
+pattern abbrev pub latest : Taken
+latest = Latest
+
+pattern abbrev pub earliest : Taken
+earliest = Earliest
+
+pattern abbrev pub every : Taken
+every = Every
 
 -- Findings: one for each taken; one for all together
-pub data Findings : Type 0 where
-  each together : Findings
+abbrev pub Findings : Type 0
+Findings = of_found.Found
+
+pattern abbrev pub each : Findings
+each = Each
+
+pattern abbrev pub together : Findings
+together = Together
 
 -- Removed: candidates not taken; those taken; all
-pub data Removed : Type 0 where
-  untaken taken all : Removed
+abbrev pub Removed : Type 0
+Removed = of_removed.Removed
+
+pattern abbrev pub untaken : Removed
+untaken = Untaken
+
+pattern abbrev pub taken : Removed
+taken = TheTaken
+
+pattern abbrev pub all : Removed
+all = All
 
 -- Afterwards, of an arrival at AND that met candidates: it joins its own side's list; it is consumed
-pub data Afterwards : Type 0 where
-  joins consumed : Afterwards
+abbrev pub Afterwards : Type 0
+Afterwards = of_afterwards.Afterwards
+
+pattern abbrev pub joins : Afterwards
+joins = Joins
+
+pattern abbrev pub consumed : Afterwards
+consumed = Consumed
 
 -- a context is a row of the table
-pub record Context : Type 0 where
-  pub takes : Taken
-  pub finds : Findings
-  pub removes : Removed
-  pub afterwards : Afterwards
+abbrev pub Context : Type 0
+Context = of_context.Context
 
 abbrev pub recent : Context
 recent = record { takes = latest; finds = each; removes = untaken; afterwards = joins }
@@ -45,20 +79,3 @@ table = recent ∷ chronicle ∷ continuous ∷ cumulative ∷ []
 -- the row of context 1 to 4; any other number is read as recent, and no plan has one
 unfoldable pub row_of : ℕ → Context
 row_of context = slice_index_or table (context - 1) recent
-
--- ---- the codes of the code's table
-unfoldable pub takes_of : ℕ → Taken
-takes_of code = pick (code == 0) latest (pick (code == 1) earliest every)
-
-unfoldable pub finds_of : ℕ → Findings
-finds_of code = pick (code == 0) each together
-
-unfoldable pub removes_of : ℕ → Removed
-removes_of code = pick (code == 0) untaken (pick (code == 1) taken all)
-
-unfoldable pub afterwards_of : ℕ → Afterwards
-afterwards_of code = pick (code == 0) joins consumed
-
--- what a row of codes says
-unfoldable pub context_of : Row → Context
-context_of r = record { takes = takes_of r.taken; finds = finds_of r.findings; removes = removes_of r.removed; afterwards = afterwards_of r.afterwards }

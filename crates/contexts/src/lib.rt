@@ -15,74 +15,81 @@ ghost use Rattle.waiting_lists.specs.Marks.{marks_of};
 ghost use Rattle.contexts.specs.Choice.{absence_candidates, and_candidates, blocks, chosen, removed_of, seq_candidates, taken_of, takes};
 ghost use Rattle.contexts.specs.Made.{accumulation_of};
 ghost use Rattle.contexts.specs.Steps.{Lows, Some, after_marks, bars_by, bars_of};
-ghost use Rattle.contexts.specs.Table.{consumed, context_of, each, joins, recent, removes_of, row_of, table, takes_of, together};
+ghost use Rattle.contexts.specs.Table.{consumed, each, joins, recent, row_of, table, together};
 
 use occurrences::Packed;
 use timestamps::{GlobalTick, Order};
 
 // ---- the table
 
-// A row of document 01's table, by codes: small numbers, since a row is looked up at every meeting.
-#[derive(Clone, Copy)]
-pub struct Row {
-    pub taken: u8,
-    pub findings: u8,
-    pub removed: u8,
-    pub afterwards: u8,
+// Which of the candidates are taken: those before no other candidate; those with no other candidate before them; all.
+#[derive(Clone, Copy, PartialEq, Eq)]
+pub enum Taken {
+    Latest,
+    Earliest,
+    Every,
 }
 
-impl Row {
-    // Taken: candidates before no other candidate; those with no other candidate before them; all.
-    pub const LATEST: u8 = 0;
+// What is found: one for each taken; one for all together.
+#[derive(Clone, Copy, PartialEq, Eq)]
+pub enum Found {
+    Each,
+    Together,
+}
 
-    pub const EARLIEST: u8 = 1;
+// Which are removed: candidates not taken; those taken; all.
+#[derive(Clone, Copy, PartialEq, Eq)]
+pub enum Removed {
+    Untaken,
+    Taken,
+    All,
+}
 
-    pub const EVERY: u8 = 2;
-    // Findings: one for each taken; one for all together.
-    pub const EACH: u8 = 0;
+// What becomes of an arrival at AND that met candidates: it joins its own side's list; it is consumed.
+#[derive(Clone, Copy, PartialEq, Eq)]
+pub enum Afterwards {
+    Joins,
+    Consumed,
+}
 
-    pub const TOGETHER: u8 = 1;
-    // Removed: candidates not taken; those taken; all.
-    pub const UNTAKEN: u8 = 0;
-
-    pub const TAKEN: u8 = 1;
-
-    pub const ALL: u8 = 2;
-    // Afterwards, of an arrival at AND that met candidates: it joins its own side's list; it is consumed.
-    pub const JOINS: u8 = 0;
-
-    pub const CONSUMED: u8 = 1;
+// A context is a row of document 01's table.
+#[derive(Clone, Copy)]
+pub struct Context {
+    pub takes: Taken,
+    pub finds: Found,
+    pub removes: Removed,
+    pub afterwards: Afterwards,
 }
 
 // The table, in document 01's order: contexts 1 to 4.
-const ROWS: [Row; 4] = [
+const ROWS: [Context; 4] = [
     // recent
-    Row {
-        taken: Row::LATEST,
-        findings: Row::EACH,
-        removed: Row::UNTAKEN,
-        afterwards: Row::JOINS,
+    Context {
+        takes: Taken::Latest,
+        finds: Found::Each,
+        removes: Removed::Untaken,
+        afterwards: Afterwards::Joins,
     },
     // chronicle
-    Row {
-        taken: Row::EARLIEST,
-        findings: Row::EACH,
-        removed: Row::TAKEN,
-        afterwards: Row::CONSUMED,
+    Context {
+        takes: Taken::Earliest,
+        finds: Found::Each,
+        removes: Removed::Taken,
+        afterwards: Afterwards::Consumed,
     },
     // continuous
-    Row {
-        taken: Row::EVERY,
-        findings: Row::EACH,
-        removed: Row::ALL,
-        afterwards: Row::CONSUMED,
+    Context {
+        takes: Taken::Every,
+        finds: Found::Each,
+        removes: Removed::All,
+        afterwards: Afterwards::Consumed,
     },
     // cumulative
-    Row {
-        taken: Row::EVERY,
-        findings: Row::TOGETHER,
-        removed: Row::ALL,
-        afterwards: Row::CONSUMED,
+    Context {
+        takes: Taken::Every,
+        finds: Found::Together,
+        removes: Removed::All,
+        afterwards: Afterwards::Consumed,
     },
 ];
 
@@ -90,16 +97,18 @@ const ROWS: [Row; 4] = [
 fn place_of(context: u64) -> usize
     ensures { (result < 4) × (slice_index_or table result recent ≡ row_of context) }
 {
-    let k = std::num::wrapping_sub_u64(context, 1);
-    if k < 4 { k as usize } else { 0 }
+    if 0 < context && context <= 4 {
+        context as usize - 1
+    } else {
+        0
+    }
 }
 
 // The row of a context.
-pub fn row_of(context: u64) -> Row
-    ensures { context_of result ≡ row_of context }
+pub fn row_of(context: u64) -> Context
+    ensures { result ≡ row_of context }
 {
-    let k = place_of(context);
-    ROWS[k]
+    ROWS[place_of(context)]
 }
 
 // ---- candidates
@@ -113,15 +122,12 @@ pub fn before_arrival(list: &[Packed], o: &Packed, ticks: &[u64], globals: &[u64
 {
     let first = occurrences::lowest(o, globals);
     let waiting = waiting_lists::list_of(list);
-    let n = waiting.len;
     let mut marks: u64 = 0;
-    let mut i: usize = 0;
-    while i < n {
+    for i in 0..waiting.len {
         let place = waiting_lists::place_at(waiting, i);
         let low = occurrences::lowest(&list[place], globals);
         let word = occurrences::order(low, &list[place], first, o, ticks, globals);
-        marks = waiting_lists::with_mark(marks, i, word.is(Order::Before));
-        i = i + 1;
+        marks = waiting_lists::with_mark(marks, i, word == Order::Before);
     }
     marks
 }
@@ -154,10 +160,8 @@ fn is_blocked_by(
         → result ≡ blocks t.clocks x z y }
 {
     let own = occurrences::lowest(middle, globals);
-    if !occurrences::weakly_before(low, left, own, middle, ticks, globals) {
-        return false;
-    }
-    occurrences::weakly_before(own, middle, first, o, ticks, globals)
+    occurrences::weakly_before(low, left, own, middle, ticks, globals)
+        && occurrences::weakly_before(own, middle, first, o, ticks, globals)
 }
 
 // Whether one of the first so many waiting middles blocks it; with the lowest global ticks as above.
@@ -179,13 +183,11 @@ fn is_blocked(
         → result ≡ some_passes (blocks t.clocks x z) (take blockers l) }
 {
     let waiting = waiting_lists::list_of(middles);
-    let mut j: usize = 0;
-    while j < blockers {
+    for j in 0..blockers {
         let place = waiting_lists::place_at(waiting, j);
         if is_blocked_by(low, left, &middles[place], first, o, ticks, globals) {
             return true;
         }
-        j = j + 1;
     }
     false
 }
@@ -209,10 +211,7 @@ fn is_free(
 {
     let low = occurrences::lowest(left, globals);
     let word = occurrences::order(low, left, first, o, ticks, globals);
-    if !word.is(Order::Before) {
-        return false;
-    }
-    !is_blocked(low, left, middles, blockers, first, o, ticks, globals)
+    word == Order::Before && !is_blocked(low, left, middles, blockers, first, o, ticks, globals)
 }
 
 // The lefts before the arrival that none of the first so many middles blocks: with none, all that are before it.
@@ -231,14 +230,11 @@ pub fn unblocked(
 {
     let first = occurrences::lowest(o, globals);
     let waiting = waiting_lists::list_of(lefts);
-    let n = waiting.len;
     let mut marks: u64 = 0;
-    let mut i: usize = 0;
-    while i < n {
+    for i in 0..waiting.len {
         let place = waiting_lists::place_at(waiting, i);
         let free = is_free(&lefts[place], middles, blockers, first, o, ticks, globals);
         marks = waiting_lists::with_mark(marks, i, free);
-        i = i + 1;
     }
     marks
 }
@@ -253,7 +249,7 @@ pub struct Choice {
 }
 
 // The lowest global ticks of those that wait, in waiting order.
-type LowestTicks = [u64; 16];
+type LowestTicks = [GlobalTick; 16];
 
 // They are filled in: an array handed back by value would be copied.
 fn lows_of(list: &[Packed], ticks: &[u64], globals: &[u64], lows: &mut LowestTicks)
@@ -261,34 +257,26 @@ fn lows_of(list: &[Packed], ticks: &[u64], globals: &[u64], lows: &mut LowestTic
     ensures { Lows globals.now list.now (list_of list.now).len lows.new }
 {
     let waiting = waiting_lists::list_of(list);
-    let n = waiting.len;
-    let places = lows[..].len();
-    let mut i: usize = 0;
-    while i < n {
+    for i in 0..waiting.len {
         let place = waiting_lists::place_at(waiting, i);
-        let low = occurrences::lowest(&list[place], globals);
-        lows[i] = low.0;
-        i = i + 1;
+        lows[i] = occurrences::lowest(&list[place], globals);
     }
 }
 
 // Whether the word for how one candidate stands to another keeps it from being taken: before where the latest are taken, after where the earliest are.
-fn word_bars(rule: u8, word: Order) -> bool
-    ensures { result ≡ bars_by (takes_of rule) word }
+fn word_bars(rule: Taken, word: Order) -> bool
+    ensures { result ≡ bars_by rule word }
 {
-    if rule == Row::LATEST {
-        word.is(Order::Before)
-    } else if rule == Row::EARLIEST {
-        word.is(Order::After)
-    } else {
-        false
+    match rule {
+        Taken::Latest => word == Order::Before,
+        Taken::Earliest => word == Order::After,
+        Taken::Every => false,
     }
 }
 
-// Whether c, where it is another candidate, keeps w from being taken; beside each its lowest global tick.
+// Whether c keeps w from being taken; beside each its lowest global tick.
 fn bars(
-    is: bool,
-    rule: u8,
+    rule: Taken,
     low: GlobalTick,
     w: &Packed,
     other: GlobalTick,
@@ -300,11 +288,8 @@ fn bars(
     ensures { (t : Notes ticks.now globals.now) (x y : Occurrence)
         → LowestOf globals.now w.now low.0 → LowestOf globals.now c.now other.0
         → Stands t w.now x → Stands t c.now y
-        → result ≡ (is && bars_of (takes_of rule) t.clocks x y) }
+        → result ≡ bars_of rule t.clocks x y }
 {
-    if !is {
-        return false;
-    }
     let word = occurrences::order(low, w, other, c, ticks, globals);
     word_bars(rule, word)
 }
@@ -314,16 +299,12 @@ fn is_other(candidates: u64, i: usize, j: usize) -> bool
     requires { j < 16 }
     ensures { result ≡ (not (i == j) && slice_index_or (marks_of candidates) j false) }
 {
-    if i == j {
-        false
-    } else {
-        waiting_lists::is_marked(candidates, j)
-    }
+    i != j && waiting_lists::is_marked(candidates, j)
 }
 
 // Whether some other candidate keeps the one at place i from being taken.
 fn barred(
-    rule: u8,
+    rule: Taken,
     i: usize,
     list: &[Packed],
     lows: &LowestTicks,
@@ -334,36 +315,32 @@ fn barred(
     requires { (i < (list_of list.now).len) × Known ticks.now globals.now list.now }
     ensures { (t : Notes ticks.now globals.now) (l : List Occurrence)
         → Waits t list.now l → Lows globals.now list.now (length l) lows.now
-        → result ≡ some_passes (bars_of (takes_of rule) t.clocks (slice_index_or l i no_occurrence)) (marked l (marks_of candidates)) }
+        → result ≡ some_passes (bars_of rule t.clocks (slice_index_or l i no_occurrence)) (marked l (marks_of candidates)) }
 {
     let waiting = waiting_lists::list_of(list);
-    let n = waiting.len;
     let own = waiting_lists::place_at(waiting, i);
-    let low = GlobalTick(lows[i]);
-    let mut j: usize = 0;
-    while j < n {
+    for j in 0..waiting.len {
         let place = waiting_lists::place_at(waiting, j);
-        if bars(
-            is_other(candidates, i, j),
-            rule,
-            low,
-            &list[own],
-            GlobalTick(lows[j]),
-            &list[place],
-            ticks,
-            globals,
-        ) {
+        if is_other(candidates, i, j)
+            && bars(
+                rule,
+                lows[i],
+                &list[own],
+                lows[j],
+                &list[place],
+                ticks,
+                globals,
+            )
+        {
             return true;
         }
-        j = j + 1;
     }
     false
 }
 
-// Whether the one at place i, where it is a candidate, is taken.
+// Whether the one at place i is a candidate and taken.
 fn is_taken(
-    is: bool,
-    rule: u8,
+    rule: Taken,
     i: usize,
     list: &[Packed],
     lows: &LowestTicks,
@@ -374,64 +351,48 @@ fn is_taken(
     requires { (i < (list_of list.now).len) × Known ticks.now globals.now list.now }
     ensures { (t : Notes ticks.now globals.now) (l : List Occurrence)
         → Waits t list.now l → Lows globals.now list.now (length l) lows.now
-        → result ≡ (is && takes (takes_of rule) t.clocks (marked l (marks_of candidates)) (slice_index_or l i no_occurrence)) }
+        → result ≡ (slice_index_or (marks_of candidates) i false && takes rule t.clocks (marked l (marks_of candidates)) (slice_index_or l i no_occurrence)) }
 {
-    if !is {
-        false
-    } else {
-        !barred(rule, i, list, lows, candidates, ticks, globals)
-    }
+    waiting_lists::is_marked(candidates, i)
+        && !barred(rule, i, list, lows, candidates, ticks, globals)
 }
 
 // Whether no more than one is marked.
 fn at_most_one(marks: u64) -> bool
     ensures { result ≡ true → slice_set (marks_of marks) (first_mark (marks_of marks)) false ≡ replicate 16 false }
 {
-    if marks == 0 {
-        return true;
-    }
-    // Without its lowest mark.
-    marks & (marks - 1) == 0
+    // None, or none without the lowest.
+    marks == 0 || marks & (marks - 1) == 0
 }
 
 // Those that a rule takes of the candidates. An only one is taken by each rule, without a look at it.
-fn taken_by(rule: u8, list: &[Packed], candidates: u64, ticks: &[u64], globals: &[u64]) -> u64
+fn taken_by(rule: Taken, list: &[Packed], candidates: u64, ticks: &[u64], globals: &[u64]) -> u64
     requires { Known ticks.now globals.now list.now }
     ensures { (t : Notes ticks.now globals.now) (l : List Occurrence) → Waits t list.now l
-        → marks_of result ≡ taken_of (takes_of rule) t.clocks l (marks_of candidates) }
+        → marks_of result ≡ taken_of rule t.clocks l (marks_of candidates) }
 {
     let waiting = waiting_lists::list_of(list);
-    let n = waiting.len;
-    if Row::EVERY <= rule {
-        return candidates & all_waiting(n);
+    if rule == Taken::Every || at_most_one(candidates) {
+        return candidates & all_waiting(waiting.len);
     }
-    if at_most_one(candidates) {
-        let only = candidates & all_waiting(n);
-        return only;
-    }
-    let mut lows = [0u64; 16];
+    let mut lows = [GlobalTick(0); 16];
     lows_of(list, ticks, globals, &mut lows);
     let mut marks: u64 = 0;
-    let mut i: usize = 0;
-    while i < n {
-        let is = waiting_lists::is_marked(candidates, i);
-        let taken = is_taken(is, rule, i, list, &lows, candidates, ticks, globals);
+    for i in 0..waiting.len {
+        let taken = is_taken(rule, i, list, &lows, candidates, ticks, globals);
         marks = waiting_lists::with_mark(marks, i, taken);
-        i = i + 1;
     }
     marks
 }
 
 // Those that a rule removes.
-fn removed_by(rule: u8, candidates: u64, taken: u64) -> u64
-    ensures { marks_of result ≡ removed_of (removes_of rule) (marks_of candidates) (marks_of taken) }
+fn removed_by(rule: Removed, candidates: u64, taken: u64) -> u64
+    ensures { marks_of result ≡ removed_of rule (marks_of candidates) (marks_of taken) }
 {
-    if rule == Row::UNTAKEN {
-        candidates ^ (candidates & taken)
-    } else if rule == Row::TAKEN {
-        taken
-    } else {
-        candidates
+    match rule {
+        Removed::Untaken => candidates ^ (candidates & taken),
+        Removed::Taken => taken,
+        Removed::All => candidates,
     }
 }
 
@@ -449,12 +410,9 @@ pub fn choose(
         × (marks_of result.removed ≡ (chosen (row_of context) t.clocks l (marks_of candidates)).removed) }
 {
     let row = row_of(context);
-    let taken = taken_by(row.taken, list, candidates, ticks, globals);
-    let removed = removed_by(row.removed, candidates, taken);
-    Choice {
-        taken: taken,
-        removed: removed,
-    }
+    let taken = taken_by(row.takes, list, candidates, ticks, globals);
+    let removed = removed_by(row.removes, candidates, taken);
+    Choice { taken, removed }
 }
 
 // ---- what is made of it
@@ -463,16 +421,14 @@ pub fn choose(
 pub fn makes_each(context: u64) -> bool
     ensures { (result ≡ true → (row_of context).finds ≡ each) × (result ≡ false → (row_of context).finds ≡ together) }
 {
-    let row = row_of(context);
-    row.findings == Row::EACH
+    row_of(context).finds == Found::Each
 }
 
 // Whether an arrival at AND that met candidates joins its own side's list, or is consumed.
 pub fn joins_afterwards(context: u64) -> bool
     ensures { (result ≡ true → (row_of context).afterwards ≡ joins) × (result ≡ false → (row_of context).afterwards ≡ consumed) }
 {
-    let row = row_of(context);
-    row.afterwards == Row::JOINS
+    row_of(context).afterwards == Afterwards::Joins
 }
 
 // The arrival combined with all taken, in waiting order.
@@ -489,16 +445,12 @@ pub fn all_combined(
         → Stands t result (fold (combined_of t.clocks) (marked l (marks_of taken)) x) }
 {
     let waiting = waiting_lists::list_of(list);
-    let n = waiting.len;
     let mut all = *o;
-    let mut i: usize = 0;
-    while i < n {
-        let next = i + 1;
+    for i in 0..waiting.len {
         if waiting_lists::is_marked(taken, i) {
             let place = waiting_lists::place_at(waiting, i);
             all = occurrences::combined(&all, &list[place], ticks, globals);
         }
-        i = next;
     }
     all
 }
@@ -514,42 +466,21 @@ fn some_before(list: &[Packed], marks: u64, middle: &Packed, ticks: &[u64], glob
 {
     let first = occurrences::lowest(middle, globals);
     let waiting = waiting_lists::list_of(list);
-    let n = waiting.len;
     let mut rest = marks;
+    // A loop over the marks, and not over all that wait: few are marked. It ends by number 16, which `first_marked` says where none is left.
     let mut i = waiting_lists::first_marked(rest);
-    while i < n {
+    while i < waiting.len {
         let place = waiting_lists::place_at(waiting, i);
         let low = occurrences::lowest(&list[place], globals);
         let word = occurrences::order(low, &list[place], first, middle, ticks, globals);
-        if word.is(Order::Before) {
+        if word == Order::Before {
             return true;
         }
         // Without its lowest mark.
-        rest = rest & (rest - 1);
+        rest &= rest - 1;
         i = waiting_lists::first_marked(rest);
     }
     false
-}
-
-// Whether a middle, where it is before the arrival, is after one of the lefts marked.
-fn is_between(
-    is: bool,
-    lefts: &[Packed],
-    marks: u64,
-    middle: &Packed,
-    ticks: &[u64],
-    globals: &[u64],
-) -> bool
-    requires { Arrives ticks.now globals.now lefts.now middle.now }
-    ensures { (t : Notes ticks.now globals.now) (l : List Occurrence) (x : Occurrence)
-        → Waits t lefts.now l → Stands t middle.now x
-        → result ≡ (is && some_passes (λ w. is_before t.clocks w x) (marked l (marks_of marks))) }
-{
-    if !is {
-        false
-    } else {
-        some_before(lefts, marks, middle, ticks, globals)
-    }
 }
 
 // Of the middles before the arrival, those after one of the lefts marked.
@@ -567,15 +498,12 @@ fn between(
         → marks_of result ≡ after_marks t.clocks (marked k (marks_of marks)) l (marks_of earlier) }
 {
     let waiting = waiting_lists::list_of(middles);
-    let n = waiting.len;
     let mut found: u64 = 0;
-    let mut i: usize = 0;
-    while i < n {
+    for i in 0..waiting.len {
         let place = waiting_lists::place_at(waiting, i);
-        let is = waiting_lists::is_marked(earlier, i);
-        let mark = is_between(is, lefts, marks, &middles[place], ticks, globals);
+        let mark = waiting_lists::is_marked(earlier, i)
+            && some_before(lefts, marks, &middles[place], ticks, globals);
         found = waiting_lists::with_mark(found, i, mark);
-        i = i + 1;
     }
     found
 }

@@ -1,11 +1,7 @@
 -- The rest from place i on, combined with what there is, is the whole.
-use Rattle.std.proofs.Common.{◌-◌, ◌≤◌}
 use Rattle.contexts.proofs.Combines.{Combines}
 use Rattle.waiting_lists.specs.Marks.{marks_of}
 use Rattle.contexts.proofs.all_combined.Given as goal
 
 abbrev pub invariant-loop-i : goal.invariant-loop-i
-invariant-loop-i l = (l.i ≤ l.n) × Combines l.ticks l.globals l.list (marks_of l.taken) l.o l.all l.i
-
-abbrev pub decreases-loop-i : goal.decreases-loop-i
-decreases-loop-i l = l.n - l.i
+invariant-loop-i l = Combines l.ticks l.globals l.list (marks_of l.taken) l.o l.all l.i

@@ -1,7 +1,6 @@
 -- No other candidate before place j bars it.
-use Rattle.std.proofs.Common.{◌≡◌, ◌-◌, ◌≤◌, List, length, get_or, drop}
+use Rattle.std.proofs.Common.{◌≡◌, List, length, get_or, drop}
 use Rattle.contexts.specs.Steps.{Lows, bars_of}
-use Rattle.contexts.specs.Table.{takes_of}
 use Rattle.occurrences.specs.Occurrences.{no_occurrence}
 use Rattle.occurrences.specs.Packed.{Notes}
 use Rattle.occurrences.specs.declared.Occurrence.{Occurrence}
@@ -13,9 +12,6 @@ use Rattle.contexts.proofs.barred.Given as goal
 
 abbrev pub invariant-loop-j : goal.invariant-loop-j
 invariant-loop-j v =
-    (v.j ≤ v.n) × ((t : Notes v.ticks v.globals) (l : List Occurrence) → Waits t v.list l → Lows v.globals v.list (length l) v.lows
-    → some_passes (bars_of (takes_of v.rule) t.clocks (get_or l v.i no_occurrence)) (marked (drop v.j l) (drop v.j (marks_of v.candidates)))
-    ≡ some_passes (bars_of (takes_of v.rule) t.clocks (get_or l v.i no_occurrence)) (marked l (marks_of v.candidates)))
-
-abbrev pub decreases-loop-j : goal.decreases-loop-j
-decreases-loop-j l = l.n - l.j
+    (t : Notes v.ticks v.globals) (l : List Occurrence) → Waits t v.list l → Lows v.globals v.list (length l) v.lows
+    → some_passes (bars_of v.rule t.clocks (get_or l v.i no_occurrence)) (marked (drop v.j l) (drop v.j (marks_of v.candidates)))
+    ≡ some_passes (bars_of v.rule t.clocks (get_or l v.i no_occurrence)) (marked l (marks_of v.candidates))

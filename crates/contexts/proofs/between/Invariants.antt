@@ -1,5 +1,5 @@
 -- The marks before place i are those of the middles between.
-use Rattle.std.proofs.Common.{◌≡◌, ℕ, ◌-◌, ◌≤◌, Bool, ◌&&◌, List, take}
+use Rattle.std.proofs.Common.{◌≡◌, ℕ, Bool, ◌&&◌, List, take}
 use Rattle.occurrences.specs.Occurrences.{is_before}
 use Rattle.occurrences.specs.Packed.{Notes}
 use Rattle.occurrences.specs.declared.Occurrence.{Occurrence}
@@ -15,8 +15,5 @@ after t lefts m c = c && some_passes (λ w. is_before t.clocks w m) lefts
 
 abbrev pub invariant-loop-i : goal.invariant-loop-i
 invariant-loop-i v =
-    (v.i ≤ v.n) × ((t : Notes v.ticks v.globals) (k l : List Occurrence) → Waits t v.lefts k → Waits t v.middles l
-    → marks_of v.found ≡ padded 16 (take v.i (zip_with (after t (marked k (marks_of v.marks))) l (marks_of v.earlier))))
-
-abbrev pub decreases-loop-i : goal.decreases-loop-i
-decreases-loop-i l = l.n - l.i
+    (t : Notes v.ticks v.globals) (k l : List Occurrence) → Waits t v.lefts k → Waits t v.middles l
+    → marks_of v.found ≡ padded 16 (take v.i (zip_with (after t (marked k (marks_of v.marks))) l (marks_of v.earlier)))

@@ -1,10 +1,7 @@
 -- The lowest of each before place i are there.
-use Rattle.std.proofs.Common.{◌≡◌, ◌-◌, ◌≤◌, length}
+use Rattle.std.proofs.Common.{◌≡◌, length}
 use Rattle.contexts.specs.Steps.{Lows}
 use Rattle.contexts.proofs.lows_of.Given as goal
 
 abbrev pub invariant-loop-i : goal.invariant-loop-i
-invariant-loop-i l = (l.i ≤ l.n) × (length l.lows ≡ 16) × Lows l.globals l.list l.i l.lows
-
-abbrev pub decreases-loop-i : goal.decreases-loop-i
-decreases-loop-i l = l.n - l.i
+invariant-loop-i l = (length l.lows ≡ 16) × Lows l.globals l.list l.i l.lows

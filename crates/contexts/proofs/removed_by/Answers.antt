@@ -2,11 +2,11 @@
 use Rattle.contexts.proofs.Steps.{removed_untaken, removed-taken, removed_all}
 use Rattle.contexts.proofs.removed_by.Goals as goal
 
-pub returns-then-rule-eq-UNTAKEN : goal.returns-then-rule-eq-UNTAKEN
-returns-then-rule-eq-UNTAKEN c = let a = c.args in removed_untaken a.rule a.candidates a.taken c.if-rule-eq-UNTAKEN.true
+pub returns-in-Untaken : goal.returns-in-Untaken
+returns-in-Untaken c = rw c.in-Untaken.is (removed_untaken c.args.candidates c.args.taken)
 
-pub returns-then-rule-eq-TAKEN : goal.returns-then-rule-eq-TAKEN
-returns-then-rule-eq-TAKEN c = let a = c.args in removed-taken a.rule a.candidates a.taken c.if-rule-eq-UNTAKEN.false c.if-rule-eq-TAKEN.true
+pub returns-in-Taken : goal.returns-in-Taken
+returns-in-Taken c = rw c.in-Taken.is (removed-taken c.args.candidates c.args.taken)
 
-pub returns-else-rule-eq-TAKEN : goal.returns-else-rule-eq-TAKEN
-returns-else-rule-eq-TAKEN c = let a = c.args in removed_all a.rule a.candidates a.taken c.if-rule-eq-UNTAKEN.false c.if-rule-eq-TAKEN.false
+pub returns-in-All : goal.returns-in-All
+returns-in-All c = rw c.in-All.is (removed_all c.args.candidates c.args.taken)

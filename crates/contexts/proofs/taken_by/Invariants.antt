@@ -1,7 +1,6 @@
 -- Every candidate that waits; else the marks before place i are those of the rule.
-use Rattle.std.proofs.Common.{◌≡◌, ◌-◌, ◌≤◌, ◌&&◌, List, take}
+use Rattle.std.proofs.Common.{◌≡◌, ◌&&◌, List, take}
 use Rattle.contexts.specs.Choice.{takes}
-use Rattle.contexts.specs.Table.{takes_of}
 use Rattle.occurrences.specs.Packed.{Notes}
 use Rattle.occurrences.specs.declared.Occurrence.{Occurrence}
 use Rattle.sequences.specs.Marks.{marked, padded}
@@ -12,8 +11,5 @@ use Rattle.contexts.proofs.taken_by.Given as goal
 
 abbrev pub invariant-loop-i : goal.invariant-loop-i
 invariant-loop-i v =
-    (v.i ≤ v.n) × ((t : Notes v.ticks v.globals) (l : List Occurrence) → Waits t v.list l
-    → marks_of v.marks ≡ padded 16 (take v.i (zip_with (λ w m. m && takes (takes_of v.rule) t.clocks (marked l (marks_of v.candidates)) w) l (marks_of v.candidates))))
-
-abbrev pub decreases-loop-i : goal.decreases-loop-i
-decreases-loop-i l = l.n - l.i
+    (t : Notes v.ticks v.globals) (l : List Occurrence) → Waits t v.list l
+    → marks_of v.marks ≡ padded 16 (take v.i (zip_with (λ w m. m && takes v.rule t.clocks (marked l (marks_of v.candidates)) w) l (marks_of v.candidates)))

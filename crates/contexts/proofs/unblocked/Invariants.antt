@@ -1,5 +1,5 @@
 -- The marks before place i are those of the lefts that are free.
-use Rattle.std.proofs.Common.{◌≡◌, ℕ, ◌-◌, ◌≤◌, Bool, not, ◌&&◌, List, map, take}
+use Rattle.std.proofs.Common.{◌≡◌, ℕ, Bool, not, ◌&&◌, List, map, take}
 use Rattle.contexts.specs.Choice.{blocks}
 use Rattle.occurrences.specs.Occurrences.{is_before}
 use Rattle.occurrences.specs.Packed.{Notes, Stands}
@@ -16,8 +16,5 @@ free t l x w = is_before t.clocks w x && not (some_passes (blocks t.clocks w x) 
 
 abbrev pub invariant-loop-i : goal.invariant-loop-i
 invariant-loop-i v =
-    (v.i ≤ v.n) × ((t : Notes v.ticks v.globals) (k l : List Occurrence) (x : Occurrence) → Waits t v.lefts k → Waits t v.middles l → Stands t v.o x
-    → marks_of v.marks ≡ padded 16 (take v.i (map (free t (take v.blockers l) x) k)))
-
-abbrev pub decreases-loop-i : goal.decreases-loop-i
-decreases-loop-i l = l.n - l.i
+    (t : Notes v.ticks v.globals) (k l : List Occurrence) (x : Occurrence) → Waits t v.lefts k → Waits t v.middles l → Stands t v.o x
+    → marks_of v.marks ≡ padded 16 (take v.i (map (free t (take v.blockers l) x) k))
