@@ -1,5 +1,5 @@
 -- The composite order by notes.
-use Rattle.std.proofs.Common.{◌≡◌, ℕ, ◌+◌, ◌-◌, ◌%◌, ◌^◌, ◌<◌, ◌≤◌, Bool, true, false, ltb, List, get_or, sym, refl, ap, ◌∙◌, inl, inr, arith, ltb-true, le-ltb, lt-ltb, eq-eqb, ne_eqb}
+use Rattle.std.proofs.Common.{◌≡◌, ℕ, ◌+◌, ◌-◌, ◌%◌, ◌^◌, ◌<◌, ◌≤◌, Bool, true, false, ltb, List, get_or, sym, refl, ap, ◌∙◌, subst, inl, inr, arith, ltb-true, le-ltb, lt-ltb, eq-eqb, ne_eqb}
 use native.Mathlib.Decide.{ℕ_discrete, dec_lt}
 use Rattle.sequences.specs.Members.{◌is_in◌}
 use Rattle.sequences.specs.Select.{some_passes}
@@ -172,13 +172,16 @@ module _ (ticks globals a b : List ℕ) (k : ℕ) where
   abbrev pub Both : Type 0
   Both = 0 < note_at ticks (get_or b 2 0) k → 0 < note_at globals (get_or b 2 0) k
 
-  -- what the code tells of the events i and j that a and b name there
-  module _ (i j low : ℕ) (told : Bool) (first : i ≡ byte_at (get_or a 2 0) k) (second : j ≡ byte_at (get_or b 2 0) k) where
-    pub has_told : ((0 < get_or ticks j 0 → 0 < get_or globals j 0) → told ≡ has_before low (get_or ticks i 0) (get_or ticks j 0) (get_or globals j 0)) → Both → has_at low ≡ told
-    has_told e o = sym ((rw (first, second) at e) o)
+  -- what the code tells of what is noted there, u of a, and v and g of b
+  module _ (u v g low : ℕ) (told : Bool) (own : note_at ticks (get_or a 2 0) k ≡ u) (other : note_at ticks (get_or b 2 0) k ≡ v) (whole : note_at globals (get_or b 2 0) k ≡ g) where
+    there : Both → 0 < v → 0 < g
+    there o l = subst (λ m. 0 < m) whole (o (subst (λ m. 0 < m) (sym other) l))
 
-    pub reached_told : ((0 < get_or ticks j 0 → 0 < get_or globals j 0) → told ≡ is_reached low (get_or ticks i 0) (get_or ticks j 0) (get_or globals j 0)) → Both → reached_at low ≡ told
-    reached_told e o = sym ((rw (first, second) at e) o)
+    pub has_told : ((0 < v → 0 < g) → told ≡ has_before low u v g) → Both → has_at low ≡ told
+    has_told e o = rw (own, other, whole) (sym (e (there o)))
+
+    pub reached_told : ((0 < v → 0 < g) → told ≡ is_reached low u v g) → Both → reached_at low ≡ told
+    reached_told e o = rw (own, other, whole) (sym (e (there o)))
 
 module _ {ticks globals : List ℕ} (n : Notes ticks globals) (x y : Occurrence) (a b : List ℕ) (p : Stands n a x) (q : Stands n b y) (low : ℕ) (least : Lowest 8 (note_at globals (get_or a 2 0)) low) where
   pub before-each : ((k : ℕ) → k < 8 → Both ticks globals a b k → has_at ticks globals a b k low ≡ true) → all_before n.clocks (members x.latest) (members y.latest) ≡ true

@@ -5,6 +5,7 @@ pub mod Events
 pub mod FileEvents
 pub mod Joins
 pub mod Latest
+pub mod Notes
 pub mod Orders
 pub mod Packed
 pub mod Rows

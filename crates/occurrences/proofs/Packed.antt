@@ -5,9 +5,10 @@ use mathlib.Core.List.{map-append}
 use lib.ListN.{length-map}
 use Rattle.sequences.proofs.Members.{get_or_in}
 use Rattle.sequences.proofs.Parts.{get_or_map}
+use Rattle.timestamps.specs.declared.Note.{Note}
 use Rattle.occurrences.specs.declared.Occurrence.{Occurrence}
 use Rattle.occurrences.specs.Occurrences.{no_occurrence}
-use Rattle.occurrences.specs.Packed.{Notes, Sound, Stand, Stands, Within, occurrence_of}
+use Rattle.occurrences.specs.Packed.{Notes, NotesOf, Sound, Stand, Stands, Within, occurrence_of}
 use Rattle.occurrences.proofs.Seen.{sound-within}
 
 module _ {ticks globals : List ℕ} (t : Notes ticks globals) where
@@ -31,5 +32,6 @@ module _ {ticks globals : List ℕ} (t : Notes ticks globals) where
     sound = h.sound (get_or ps i []) (get_or_in ps i [] k);
   }
 
-  pub stands-within : (p : List ℕ) (o : Occurrence) → Stands t p o → Within ticks globals p
-  stands-within p o h = sound-within t p h.sound
+-- what it names is noted
+pub stands-within : (notes : List Note) (t : NotesOf notes) (p : List ℕ) (o : Occurrence) → Stands t p o → Within notes p
+stands-within notes t p o h = sound-within notes t p h.sound

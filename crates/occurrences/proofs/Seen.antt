@@ -2,14 +2,16 @@
 use Rattle.std.proofs.Common.{◌≡◌, ℕ, ◌+◌, ◌<◌, ◌≤◌, List, length, get_or, sym, refl, ap, ◌∙◌, subst, inl, inr, ⊎_elim, arith}
 use native.Mathlib.Decide.{ℕ_discrete}
 use Rattle.sequences.specs.Members.{◌is_in◌, SameMembers}
+use Rattle.timestamps.specs.declared.Note.{Note}
 use Rattle.timestamps.specs.declared.Timestamp.{Timestamp}
 use Rattle.timestamps.specs.Composite.{IsComposite, members}
 use Rattle.timestamps.specs.Order.{Clocks, blank}
 use Rattle.timestamps.proofs.Composite.{same-stamp}
 use Rattle.timestamps.proofs.Stamps.{global}
 use Rattle.occurrences.specs.declared.Occurrence.{Occurrence}
-use Rattle.occurrences.specs.Packed.{Names, Notes, Sound, Stands, Within, byte_at}
+use Rattle.occurrences.specs.Packed.{Names, Notes, NotesOf, Sound, Stands, Within, byte_at}
 use Rattle.occurrences.specs.Steps.{Lowest, note_at}
+use Rattle.occurrences.proofs.Notes.{length_ticks}
 use Rattle.occurrences.proofs.Views.{latest_in, stamp, stamps_in_lem, stamps_of_lem, stamps_in}
 
 -- ---- local notes v and global notes g by logger place, and the stamps l that they tell
@@ -63,13 +65,13 @@ module _ {ticks globals : List ℕ} (t : Notes ticks globals) where
     pub seen-stands : Seen t.clocks (note_at ticks (get_or p 2 0)) (note_at globals (get_or p 2 0)) (members o.latest)
     seen-stands = subst (Seen t.clocks (note_at ticks (get_or p 2 0)) (note_at globals (get_or p 2 0))) stands-stamps (seen-sound (get_or p 2 0) h.sound.names)
 
-  -- what a sound byte names has a place in both tables
-  pub sound-within : (p : List ℕ) → Sound t p → Within ticks globals p
-  sound-within p s k l = go (s.names k l)
-    where
-      go : Names t.stamps k (byte_at (get_or p 2 0) k) → (byte_at (get_or p 2 0) k < length ticks) × (byte_at (get_or p 2 0) k < length globals)
-      go (inl e) = (omega (arith, t.tick-room, e), omega (arith, t.global-room, e))
-      go (inr (e, x, m, y)) = (omega (arith, t.tick-room, x, m), omega (arith, t.global-room, x, m))
+-- what a sound byte names is noted
+pub sound-within : (notes : List Note) (t : NotesOf notes) (p : List ℕ) → Sound t p → Within notes p
+sound-within notes t p s k l = go (s.names k l)
+  where
+    go : Names t.stamps k (byte_at (get_or p 2 0) k) → byte_at (get_or p 2 0) k < length notes
+    go (inl e) = omega (arith, t.tick-room, e, length_ticks notes)
+    go (inr (e, x, m, y)) = omega (arith, t.tick-room, x, m, length_ticks notes)
 
 -- ---- the stamp at a place that has one, and the lowest
 module _ (clocks : Clocks) (v g : ℕ → ℕ) (l : List Timestamp) (seen : Seen clocks v g l) where

@@ -61,7 +61,7 @@ module _ (w n : ℕ) (o : Only w n) where
     | no d ↦ subst P (sym (o.elsewhere k l d)) z
   ]
 
-  pub only_inside : (table : List ℕ) → Inside 8 table w → n < length table
+  pub only_inside : {A : Type 0} (table : List A) → Inside 8 table w → n < length table
   only_inside table h = subst (λ m. m < length table) o.here (h o.place o.within)
 
   -- its tick is the lowest

@@ -2,6 +2,7 @@
 -- event has its stamp there: the event's number plus one, 0 for none. Two tables say what is noted of each event.
 use Rattle.std.specs.Prelude.{◌≡◌, ℕ, ◌+◌, ◌-◌, ◌*◌, ◌/◌, ◌%◌, ◌^◌, ◌<◌, ◌⊎◌, List, ◌∷◌, map, length, get_or, take, drop, nat_lt, slice_index, slice_index_or}
 use Rattle.sequences.specs.Members.{◌is_in◌}
+use Rattle.timestamps.specs.declared.Note.{Note}
 use Rattle.timestamps.specs.declared.Timestamp.{Timestamp}
 use Rattle.timestamps.specs.Composite.{IsComposite, logger_places, members}
 use Rattle.timestamps.specs.Order.{Clocks, blank, global_of}
@@ -18,6 +19,19 @@ pub record Notes (ticks globals : List ℕ) : Type 0 where
   pub global-room : length stamps < length globals
   pub tick : (e : ℕ) → e < length stamps → slice_index ticks (e + 1) ≡ (get_or stamps e blank).tick.0 + 1
   pub global : (e : ℕ) → e < length stamps → slice_index globals (e + 1) ≡ (global_of clocks (slice_index_or stamps e blank)).0 + 1
+
+-- as the code has it: a note for each event
+abbrev pub nothing_noted : Note
+nothing_noted = record { tick = 0; global = 0 }
+
+abbrev pub ticks_of : List Note → List ℕ
+ticks_of notes = map (λ n. n.tick) notes
+
+abbrev pub globals_of : List Note → List ℕ
+globals_of notes = map (λ n. n.global) notes
+
+abbrev pub NotesOf : List Note → Type 0
+NotesOf notes = Notes (ticks_of notes) (globals_of notes)
 
 -- ---- the view
 -- the byte at a logger place
@@ -63,6 +77,6 @@ pub record Stand {ticks globals : List ℕ} (t : Notes ticks globals) (ps : List
 abbrev pub Holds : {ticks globals : List ℕ} (t : Notes ticks globals) (row : List (List ℕ)) → ℕ → List Occurrence → Type 0
 Holds t row n l = Stand t (take n row) l
 
--- ---- and enough of it to be looked up: what each byte names has a place in both tables
-abbrev pub Within : (ticks globals p : List ℕ) → Type 0
-Within ticks globals p = (k : ℕ) → k < 8 → (byte_at (slice_index p 2) k < length ticks) × (byte_at (slice_index p 2) k < length globals)
+-- ---- and enough of it to be looked up: what each byte names is noted
+abbrev pub Within : List Note → List ℕ → Type 0
+Within notes p = (k : ℕ) → k < 8 → byte_at (slice_index p 2) k < length notes

@@ -1,14 +1,15 @@
 -- What the functions over packed occurrences compute, by notes: a tick plus one, or 0 for none. Readers of the promises need none of these.
 use Rattle.std.specs.Prelude.{◌≡◌, ℕ, ◌+◌, ◌-◌, ◌*◌, ◌^◌, ◌<◌, ◌≤◌, Bool, true, false, ◌⊎◌, List, length, ◌==◌, ◌≢◌, nat_lt, slice_index}
 use Rattle.sequences.specs.Choice.{pick}
-use Rattle.occurrences.specs.Packed.{byte_at}
+use Rattle.timestamps.specs.declared.Note.{Note}
+use Rattle.occurrences.specs.Packed.{byte_at, globals_of}
 
 -- what a table has of the event that a place's byte names
 abbrev pub note_at : List ℕ → ℕ → ℕ → ℕ
 note_at table w k = slice_index table (byte_at w k)
 
 -- what the first n bytes of w name has a place in a table
-abbrev pub Inside : ℕ → List ℕ → ℕ → Type 0
+abbrev pub Inside : {A : Type 0} → ℕ → List A → ℕ → Type 0
 Inside n table w = (k : ℕ) → k < n → byte_at w k < length table
 
 -- r has the bytes f at the first n places, and none past them
@@ -52,8 +53,8 @@ pub record Lowest (n : ℕ) (g : ℕ → ℕ) (low : ℕ) : Type 0 where
   pub some : (((k : ℕ) → k < n → g k ≡ 0) × (low ≡ 2 ^ 64 - 1)) ⊎ ((k : ℕ) × (k < n) × (g k ≡ low + 1))
 
 -- that of a packed occurrence
-abbrev pub LowestOf : List ℕ → List ℕ → ℕ → Type 0
-LowestOf globals p low = Lowest 8 (note_at globals (slice_index p 2)) low
+abbrev pub LowestOf : List Note → List ℕ → ℕ → Type 0
+LowestOf notes p low = Lowest 8 (note_at (globals_of notes) (slice_index p 2)) low
 
 -- v is one, and before w on one clock
 unfoldable pub own_before : ℕ → ℕ → Bool

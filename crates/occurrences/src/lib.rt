@@ -6,7 +6,8 @@ ghost use Rattle.std.specs.Prelude.{◌≡◌, ℕ, ◌+◌, ◌%◌, ◌^◌, �
 ghost use Rattle.occurrences.specs.declared.Occurrence.{Occurrence};
 ghost use Rattle.occurrences.specs.Combination.{combined_of};
 ghost use Rattle.occurrences.specs.Occurrences.{is_weakly_before, occurrence_order, of_event};
-ghost use Rattle.occurrences.specs.Packed.{Names, Notes, Stands, Within, byte_at, words_of};
+ghost use Rattle.timestamps.specs.declared.Note.{Note};
+ghost use Rattle.occurrences.specs.Packed.{Names, NotesOf, Stands, Within, byte_at, globals_of, ticks_of, words_of};
 ghost use Rattle.occurrences.specs.Steps.{Bytes, Highest, Inside, Lowest, LowestOf, Only, Settled};
 ghost use Rattle.occurrences.specs.Steps.{has_before, is_reached, kept_of, later_at, later_of, note_at, own_before};
 ghost use Rattle.timestamps.specs.Comparison.{all_before, stamps_weakly_before};
@@ -14,7 +15,7 @@ ghost use Rattle.timestamps.specs.Composite.{members};
 ghost use Rattle.timestamps.specs.Order.{blank};
 
 use event_sets::EventSet;
-use timestamps::{CompositeTimestamp, GlobalTick, LocalTick, Order};
+use timestamps::{CompositeTimestamp, GlobalTick, LocalTick, Note, Order};
 
 // Document 01's occurrence: its composite stamp and its events.
 #[derive(Clone, Copy)]
@@ -29,7 +30,7 @@ pub type Packed = [u64; 3];
 // A file event: one timestamp, which is noted at its number plus one, and its own number.
 pub fn of_event(logger: u8, number: usize) -> Packed
     requires { (number < 128) × (logger < 8) }
-    ensures { (ticks globals : List ℕ) (t : Notes ticks globals)
+    ensures { (notes : List Note) (t : NotesOf notes)
         → number < length t.stamps → (get_or t.stamps number blank).logger ≡ logger
         → Stands t result (of_event (slice_index_or t.stamps number blank) number) }
 {
@@ -60,11 +61,11 @@ fn event_at(w: u64, k: usize) -> usize
 }
 
 // The timestamp at a logger place: its local tick plus one, 0 for none.
-pub fn word_at(o: &Packed, ticks: &[u64], k: usize) -> u64
-    requires { (k < 8) × (byte_at (slice_index o.now 2) k < length ticks.now) }
-    ensures { result ≡ slice_index (words_of ticks.now o.now) (2 + k) }
+pub fn word_at(o: &Packed, notes: &[Note], k: usize) -> u64
+    requires { (k < 8) × (byte_at (slice_index o.now 2) k < length notes.now) }
+    ensures { result ≡ slice_index (words_of (ticks_of notes.now) o.now) (2 + k) }
 {
-    ticks[event_at(o[2], k)]
+    notes[event_at(o[2], k)].tick
 }
 
 // The event that has the only timestamp, its number plus one; none where there is none, or several.
@@ -83,11 +84,11 @@ fn only(w: u64) -> Option<usize>
 // ---- the join
 
 // Of two events of one logger the one with the later local tick; both plus one.
-fn later_of(i: usize, j: usize, ticks: &[u64]) -> usize
-    requires { (i < length ticks.now) × (j < length ticks.now) }
-    ensures { result ≡ later_of ticks.now i j }
+fn later_of(i: usize, j: usize, notes: &[Note]) -> usize
+    requires { (i < length notes.now) × (j < length notes.now) }
+    ensures { result ≡ later_of (ticks_of notes.now) i j }
 {
-    if LocalTick(ticks[i]).earlier(LocalTick(ticks[j])) {
+    if LocalTick(notes[i].tick).earlier(LocalTick(notes[j].tick)) {
         j
     } else {
         i
@@ -102,33 +103,33 @@ struct Merge {
 }
 
 // At the first four logger places the later timestamp of each.
-fn merged_of_four(a: u64, b: u64, ticks: &[u64], globals: &[u64]) -> Merge
-    requires { Inside 4 ticks.now a × Inside 4 ticks.now b × Inside 4 globals.now a × Inside 4 globals.now b }
-    ensures { Bytes 4 (later_at ticks.now a b) result.events
-        × Highest 4 (λ k. slice_index globals.now (later_at ticks.now a b k)) result.highest.0 }
+fn merged_of_four(a: u64, b: u64, notes: &[Note]) -> Merge
+    requires { Inside 4 notes.now a × Inside 4 notes.now b }
+    ensures { Bytes 4 (later_at (ticks_of notes.now) a b) result.events
+        × Highest 4 (λ k. slice_index (globals_of notes.now) (later_at (ticks_of notes.now) a b k)) result.highest.0 }
 {
     let mut events = 0;
     let mut highest = GlobalTick(0);
     for k in 0..4 {
-        let n = later_of(event_at(a, k), event_at(b, k), ticks);
-        highest = highest.latest(GlobalTick(globals[n]));
+        let n = later_of(event_at(a, k), event_at(b, k), notes);
+        highest = highest.latest(GlobalTick(notes[n].global));
         events |= (n as u64) << (8 * k);
     }
     Merge { events, highest }
 }
 
 // Of each logger the later timestamp.
-fn merged(a: u64, b: u64, ticks: &[u64], globals: &[u64]) -> Merge
-    requires { Inside 8 ticks.now a × Inside 8 ticks.now b × Inside 8 globals.now a × Inside 8 globals.now b }
-    ensures { Bytes 8 (later_at ticks.now a b) result.events
-        × (slice_index globals.now 0 ≡ 0
-        → Highest 8 (λ k. slice_index globals.now (later_at ticks.now a b k)) result.highest.0) }
+fn merged(a: u64, b: u64, notes: &[Note]) -> Merge
+    requires { Inside 8 notes.now a × Inside 8 notes.now b }
+    ensures { Bytes 8 (later_at (ticks_of notes.now) a b) result.events
+        × (slice_index (globals_of notes.now) 0 ≡ 0
+        → Highest 8 (λ k. slice_index (globals_of notes.now) (later_at (ticks_of notes.now) a b k)) result.highest.0) }
 {
-    let low = merged_of_four(a, b, ticks, globals);
+    let low = merged_of_four(a, b, notes);
     if (a | b) >> 32 == 0 {
         return low;
     }
-    let high = merged_of_four(a >> 32, b >> 32, ticks, globals);
+    let high = merged_of_four(a >> 32, b >> 32, notes);
     Merge {
         events: low.events | high.events << 32,
         highest: low.highest.latest(high.highest),
@@ -136,11 +137,11 @@ fn merged(a: u64, b: u64, ticks: &[u64], globals: &[u64]) -> Merge
 }
 
 // The event i, unless its global tick is clearly earlier than the highest; both plus one.
-fn kept(i: usize, highest: GlobalTick, globals: &[u64]) -> usize
-    requires { i < length globals.now }
-    ensures { result ≡ kept_of globals.now highest.0 i }
+fn kept(i: usize, highest: GlobalTick, notes: &[Note]) -> usize
+    requires { i < length notes.now }
+    ensures { result ≡ kept_of (globals_of notes.now) highest.0 i }
 {
-    if GlobalTick(globals[i]).clearly_earlier(highest) {
+    if GlobalTick(notes[i].global).clearly_earlier(highest) {
         0
     } else {
         i
@@ -148,43 +149,43 @@ fn kept(i: usize, highest: GlobalTick, globals: &[u64]) -> usize
 }
 
 // At the first four logger places those that are not clearly earlier.
-fn settled_of_four(c: u64, highest: GlobalTick, globals: &[u64]) -> u64
-    requires { Inside 4 globals.now c }
-    ensures { Bytes 4 (λ k. kept_of globals.now highest.0 (byte_at c k)) result }
+fn settled_of_four(c: u64, highest: GlobalTick, notes: &[Note]) -> u64
+    requires { Inside 4 notes.now c }
+    ensures { Bytes 4 (λ k. kept_of (globals_of notes.now) highest.0 (byte_at c k)) result }
 {
     let mut events = 0;
     for k in 0..4 {
-        let n = kept(event_at(c, k), highest, globals);
+        let n = kept(event_at(c, k), highest, notes);
         events |= (n as u64) << (8 * k);
     }
     events
 }
 
 // Those that are not clearly earlier.
-fn settled(c: u64, highest: GlobalTick, globals: &[u64]) -> u64
-    requires { Inside 8 globals.now c }
-    ensures { Bytes 8 (λ k. kept_of globals.now highest.0 (byte_at c k)) result }
+fn settled(c: u64, highest: GlobalTick, notes: &[Note]) -> u64
+    requires { Inside 8 notes.now c }
+    ensures { Bytes 8 (λ k. kept_of (globals_of notes.now) highest.0 (byte_at c k)) result }
 {
-    let low = settled_of_four(c, highest, globals);
+    let low = settled_of_four(c, highest, notes);
     if c >> 32 == 0 {
         return low;
     }
-    low | settled_of_four(c >> 32, highest, globals) << 32
+    low | settled_of_four(c >> 32, highest, notes) << 32
 }
 
 // The join of two packed composite timestamps: where each has only one, and these are clearly apart, the later; else of each logger the later, and of
 // these those that are not clearly earlier than the highest.
-fn joined(a: u64, b: u64, ticks: &[u64], globals: &[u64]) -> u64
-    requires { Inside 8 ticks.now a × Inside 8 ticks.now b × Inside 8 globals.now a × Inside 8 globals.now b }
-    ensures { (t : Notes ticks.now globals.now)
+fn joined(a: u64, b: u64, notes: &[Note]) -> u64
+    requires { Inside 8 notes.now a × Inside 8 notes.now b }
+    ensures { (t : NotesOf notes.now)
         → ((k : ℕ) → k < 8 → Names t.stamps k (byte_at a k)) → ((k : ℕ) → k < 8 → Names t.stamps k (byte_at b k))
-        → Settled globals.now (later_at ticks.now a b) result }
+        → Settled (globals_of notes.now) (later_at (ticks_of notes.now) a b) result }
 {
     if let Some(i) = only(a)
         && let Some(j) = only(b)
     {
-        let s = GlobalTick(globals[i]);
-        let t = GlobalTick(globals[j]);
+        let s = GlobalTick(notes[i].global);
+        let t = GlobalTick(notes[j].global);
         if s.clearly_earlier(t) {
             return b;
         }
@@ -192,19 +193,19 @@ fn joined(a: u64, b: u64, ticks: &[u64], globals: &[u64]) -> u64
             return a;
         }
     }
-    let m = merged(a, b, ticks, globals);
-    settled(m.events, m.highest, globals)
+    let m = merged(a, b, notes);
+    settled(m.events, m.highest, notes)
 }
 
 // The combination of two: the join of their timestamps, and the union of their events.
-pub fn combined(a: &Packed, b: &Packed, ticks: &[u64], globals: &[u64]) -> Packed
-    requires { Within ticks.now globals.now a.now × Within ticks.now globals.now b.now }
-    ensures { (t : Notes ticks.now globals.now) (x y : Occurrence)
+pub fn combined(a: &Packed, b: &Packed, notes: &[Note]) -> Packed
+    requires { Within notes.now a.now × Within notes.now b.now }
+    ensures { (t : NotesOf notes.now) (x y : Occurrence)
         → Stands t a.now x → Stands t b.now y
         → Stands t result (combined_of t.clocks x y) }
 {
     let events = event_sets::union(events_of(a), events_of(b));
-    [events.low, events.high, joined(a[2], b[2], ticks, globals)]
+    [events.low, events.high, joined(a[2], b[2], notes)]
 }
 
 // ---- the order
@@ -217,33 +218,33 @@ fn tick_of(note: u64) -> u64
 }
 
 // The lowest global tick at the first four logger places; the largest number where there is none.
-fn lowest_of_four(w: u64, globals: &[u64]) -> GlobalTick
-    requires { Inside 4 globals.now w }
-    ensures { Lowest 4 (note_at globals.now w) result.0 }
+fn lowest_of_four(w: u64, notes: &[Note]) -> GlobalTick
+    requires { Inside 4 notes.now w }
+    ensures { Lowest 4 (note_at (globals_of notes.now) w) result.0 }
 {
     let mut low = GlobalTick(u64::MAX);
     for k in 0..4 {
-        low = low.earliest(GlobalTick(tick_of(globals[event_at(w, k)])));
+        low = low.earliest(GlobalTick(tick_of(notes[event_at(w, k)].global)));
     }
     low
 }
 
 // The lowest of all global ticks, the largest number where there is none. An only timestamp is looked at at once, the last four places only where they
 // have any.
-pub fn lowest(o: &Packed, globals: &[u64]) -> GlobalTick
-    requires { Inside 8 globals.now (slice_index o.now 2) }
-    ensures { slice_index globals.now 0 ≡ 0 → LowestOf globals.now o.now result.0 }
+pub fn lowest(o: &Packed, notes: &[Note]) -> GlobalTick
+    requires { Inside 8 notes.now (slice_index o.now 2) }
+    ensures { slice_index (globals_of notes.now) 0 ≡ 0 → LowestOf notes.now o.now result.0 }
 {
     let w = o[2];
     if let Some(event) = only(w) {
-        return GlobalTick(tick_of(globals[event]));
+        return GlobalTick(tick_of(notes[event].global));
     }
-    let low = lowest_of_four(w, globals);
+    let low = lowest_of_four(w, notes);
     let high = w >> 32;
     if high == 0 {
         return low;
     }
-    low.earliest(lowest_of_four(high, globals))
+    low.earliest(lowest_of_four(high, notes))
 }
 
 // Whether v is a note, and its tick before that of the note w on one clock.
@@ -253,35 +254,31 @@ fn own_before(v: u64, w: u64) -> bool
     LocalTick(tick_of(v)).earlier(LocalTick(tick_of(w)))
 }
 
-// Whether the event j of the second, at one logger place, has a timestamp before it: there the event i of the first, or of any logger the lowest of the first.
-fn has_before(low: GlobalTick, i: usize, j: usize, ticks: &[u64], globals: &[u64]) -> bool
-    requires { (i < length ticks.now) × (j < length ticks.now) × (j < length globals.now) }
-    ensures { (0 < slice_index ticks.now j → 0 < slice_index globals.now j)
-        → result ≡ has_before low.0 (slice_index ticks.now i) (slice_index ticks.now j) (slice_index globals.now j) }
+// Whether the second, by what is noted of its timestamp at one logger place, has one before it: there the first one's, or of any logger the lowest of the first.
+fn has_before(low: GlobalTick, own: Note, other: Note) -> bool
+    ensures { (0 < other.tick → 0 < other.global) → result ≡ has_before low.0 own.tick other.tick other.global }
 {
-    ticks[j] == 0
-        || own_before(ticks[i], ticks[j])
-        || low.clearly_earlier(GlobalTick(tick_of(globals[j])))
+    other.tick == 0
+        || own_before(own.tick, other.tick)
+        || low.clearly_earlier(GlobalTick(tick_of(other.global)))
 }
 
 // The same, where the second has a timestamp at that place.
-fn is_reached(low: GlobalTick, i: usize, j: usize, ticks: &[u64], globals: &[u64]) -> bool
-    requires { (i < length ticks.now) × (j < length ticks.now) × (j < length globals.now) }
-    ensures { (0 < slice_index ticks.now j → 0 < slice_index globals.now j)
-        → result ≡ is_reached low.0 (slice_index ticks.now i) (slice_index ticks.now j) (slice_index globals.now j) }
+fn is_reached(low: GlobalTick, own: Note, other: Note) -> bool
+    ensures { (0 < other.tick → 0 < other.global) → result ≡ is_reached low.0 own.tick other.tick other.global }
 {
-    ticks[j] != 0 && has_before(low, i, j, ticks, globals)
+    other.tick != 0 && has_before(low, own, other)
 }
 
 // Whether the first one's composite timestamp is before the second's, place by place of the second; with the lowest global tick of the first.
-fn before(low: GlobalTick, a: &Packed, b: &Packed, ticks: &[u64], globals: &[u64]) -> bool
-    requires { Within ticks.now globals.now a.now × Within ticks.now globals.now b.now }
-    ensures { (t : Notes ticks.now globals.now) (x y : Occurrence)
-        → LowestOf globals.now a.now low.0 → Stands t a.now x → Stands t b.now y
+fn before(low: GlobalTick, a: &Packed, b: &Packed, notes: &[Note]) -> bool
+    requires { Within notes.now a.now × Within notes.now b.now }
+    ensures { (t : NotesOf notes.now) (x y : Occurrence)
+        → LowestOf notes.now a.now low.0 → Stands t a.now x → Stands t b.now y
         → result ≡ all_before t.clocks (members x.latest) (members y.latest) }
 {
     for k in 0..8 {
-        if !has_before(low, event_at(a[2], k), event_at(b[2], k), ticks, globals) {
+        if !has_before(low, notes[event_at(a[2], k)], notes[event_at(b[2], k)]) {
             return false;
         }
     }
@@ -293,16 +290,15 @@ fn weakly_by_place(
     a: &Packed,
     first: GlobalTick,
     b: &Packed,
-    ticks: &[u64],
-    globals: &[u64],
+    notes: &[Note],
 ) -> bool
-    requires { Within ticks.now globals.now a.now × Within ticks.now globals.now b.now }
-    ensures { (t : Notes ticks.now globals.now) (x y : Occurrence)
-        → LowestOf globals.now b.now first.0 → Stands t a.now x → Stands t b.now y
+    requires { Within notes.now a.now × Within notes.now b.now }
+    ensures { (t : NotesOf notes.now) (x y : Occurrence)
+        → LowestOf notes.now b.now first.0 → Stands t a.now x → Stands t b.now y
         → result ≡ stamps_weakly_before t.clocks (members x.latest) (members y.latest) }
 {
     for k in 0..8 {
-        if is_reached(first, event_at(b[2], k), event_at(a[2], k), ticks, globals) {
+        if is_reached(first, notes[event_at(b[2], k)], notes[event_at(a[2], k)]) {
             return false;
         }
     }
@@ -315,22 +311,21 @@ fn order_by_place(
     a: &Packed,
     first: GlobalTick,
     b: &Packed,
-    ticks: &[u64],
-    globals: &[u64],
+    notes: &[Note],
 ) -> Order
-    requires { Within ticks.now globals.now a.now × Within ticks.now globals.now b.now }
-    ensures { (t : Notes ticks.now globals.now) (x y : Occurrence)
-        → LowestOf globals.now a.now low.0 → LowestOf globals.now b.now first.0
+    requires { Within notes.now a.now × Within notes.now b.now }
+    ensures { (t : NotesOf notes.now) (x y : Occurrence)
+        → LowestOf notes.now a.now low.0 → LowestOf notes.now b.now first.0
         → Stands t a.now x → Stands t b.now y
         → result ≡ occurrence_order t.clocks x y }
 {
-    if before(low, a, b, ticks, globals) {
+    if before(low, a, b, notes) {
         return Order::Before;
     }
-    if before(first, b, a, ticks, globals) {
+    if before(first, b, a, notes) {
         return Order::After;
     }
-    if weakly_by_place(a, first, b, ticks, globals) && weakly_by_place(b, low, a, ticks, globals) {
+    if weakly_by_place(a, first, b, notes) && weakly_by_place(b, low, a, notes) {
         Order::Concurrent
     } else {
         Order::Incomparable
@@ -343,12 +338,11 @@ pub fn order(
     a: &Packed,
     first: GlobalTick,
     b: &Packed,
-    ticks: &[u64],
-    globals: &[u64],
+    notes: &[Note],
 ) -> Order
-    requires { Within ticks.now globals.now a.now × Within ticks.now globals.now b.now }
-    ensures { (t : Notes ticks.now globals.now) (x y : Occurrence)
-        → LowestOf globals.now a.now low.0 → LowestOf globals.now b.now first.0
+    requires { Within notes.now a.now × Within notes.now b.now }
+    ensures { (t : NotesOf notes.now) (x y : Occurrence)
+        → LowestOf notes.now a.now low.0 → LowestOf notes.now b.now first.0
         → Stands t a.now x → Stands t b.now y
         → result ≡ occurrence_order t.clocks x y }
 {
@@ -358,7 +352,7 @@ pub fn order(
     if first.clearly_earlier(low) {
         return Order::After;
     }
-    order_by_place(low, a, first, b, ticks, globals)
+    order_by_place(low, a, first, b, notes)
 }
 
 // Whether the first one's composite timestamp is weakly before the second's, likewise.
@@ -367,15 +361,14 @@ pub fn weakly_before(
     a: &Packed,
     other: GlobalTick,
     b: &Packed,
-    ticks: &[u64],
-    globals: &[u64],
+    notes: &[Note],
 ) -> bool
-    requires { Within ticks.now globals.now a.now × Within ticks.now globals.now b.now }
-    ensures { (t : Notes ticks.now globals.now) (x y : Occurrence)
-        → LowestOf globals.now a.now own.0 → LowestOf globals.now b.now other.0
+    requires { Within notes.now a.now × Within notes.now b.now }
+    ensures { (t : NotesOf notes.now) (x y : Occurrence)
+        → LowestOf notes.now a.now own.0 → LowestOf notes.now b.now other.0
         → Stands t a.now x → Stands t b.now y
         → result ≡ is_weakly_before t.clocks x y }
 {
     own.clearly_earlier(other)
-        || (!other.clearly_earlier(own) && weakly_by_place(a, other, b, ticks, globals))
+        || (!other.clearly_earlier(own) && weakly_by_place(a, other, b, notes))
 }

@@ -115,6 +115,13 @@ pub fn valid_ratio(ratio: u64) -> bool
     }
 }
 
+// What is noted of an event: its local tick and its global tick, each plus one; 0 for none.
+#[derive(Clone, Copy, PartialEq, Eq)]
+pub struct Note {
+    pub tick: u64,
+    pub global: u64,
+}
+
 // ---- composite timestamps
 
 // Document 01's composite stamp: at most one timestamp for each logger place. Where there is none the tick is 0.

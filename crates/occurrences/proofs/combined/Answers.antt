@@ -5,9 +5,7 @@ use Rattle.std.proofs.Common.{◌∙◌, ap₂}
 use Rattle.occurrences.proofs.combined.Goals as goal
 
 pub joined-requires : goal.joined-requires
-joined-requires c =
-    let p = c.requires in
-    ((λ k l. (p.0 k l).0), (λ k l. (p.1 k l).0), (λ k l. (p.0 k l).1), (λ k l. (p.1 k l).1))
+joined-requires c = c.requires
 
 pub returns : goal.returns
 returns c =

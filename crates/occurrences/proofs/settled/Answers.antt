@@ -1,4 +1,5 @@
 -- Of the eight places; where the upper four have none, of the lower.
+use Rattle.occurrences.specs.Packed.{globals_of}
 use Rattle.occurrences.proofs.Bytes.{byte_further, byte_none, bytes-more, bytes-none, inside-first, inside-last, kept-none}
 use Rattle.occurrences.specs.Steps.{kept_of}
 use Rattle.std.proofs.Common.{ap, arith}
@@ -15,5 +16,5 @@ settled_of_four-requires c = inside-last _ _ c.requires
 
 pub returns : goal.returns
 returns c =
-    bytes-more 4 4 _ _ _ _ (omega arith) (λ j l. ap (kept_of c.args.globals.now c.args.highest.0) (byte_further c.args.c 4 j))
+    bytes-more 4 4 _ _ _ _ (omega arith) (λ j l. ap (kept_of (globals_of c.args.notes.now) c.args.highest.0) (byte_further c.args.c 4 j))
     c.settled_of_four-low.ensures c.settled_of_four.ensures
