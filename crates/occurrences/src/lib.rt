@@ -6,8 +6,7 @@ ghost use Rattle.std.specs.Prelude.{◌≡◌, ℕ, ◌+◌, ◌%◌, ◌^◌, �
 ghost use Rattle.occurrences.specs.declared.Occurrence.{Occurrence};
 ghost use Rattle.occurrences.specs.Combination.{combined_of};
 ghost use Rattle.occurrences.specs.Occurrences.{is_weakly_before, occurrence_order, of_event};
-ghost use Rattle.timestamps.specs.declared.Note.{Note};
-ghost use Rattle.occurrences.specs.Packed.{Names, NotesOf, Stands, Within, byte_at, globals_of, ticks_of, words_of};
+ghost use Rattle.occurrences.specs.Packed.{Names, Notes, NotesOf, Stands, Within, byte_at, globals_of, ticks_of, words_of};
 ghost use Rattle.occurrences.specs.Steps.{Bytes, Highest, Inside, Lowest, LowestOf, Only, Settled};
 ghost use Rattle.occurrences.specs.Steps.{has_before, is_reached, kept_of, later_at, later_of, note_at, own_before};
 ghost use Rattle.timestamps.specs.Comparison.{all_before, stamps_weakly_before};
@@ -30,7 +29,7 @@ pub type Packed = [u64; 3];
 // A file event: one timestamp, which is noted at its number plus one, and its own number.
 pub fn of_event(logger: u8, number: usize) -> Packed
     requires { (number < 128) × (logger < 8) }
-    ensures { (notes : List Note) (t : NotesOf notes)
+    ensures { (ticks globals : List ℕ) (t : Notes ticks globals)
         → number < length t.stamps → (get_or t.stamps number blank).logger ≡ logger
         → Stands t result (of_event (slice_index_or t.stamps number blank) number) }
 {

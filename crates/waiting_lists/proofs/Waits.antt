@@ -5,9 +5,10 @@ use Prim.Native.Nat.{ℕ, ◌+◌, ◌-◌, ◌≤◌, ◌<◌}
 use native.Mathlib.Omega.{arith}
 use lib.ListN.{get_or, length}
 use Rattle.sequences.proofs.Range.{range_none}
+use Rattle.timestamps.specs.declared.Note.{Note}
 use Rattle.occurrences.specs.declared.Occurrence.{Occurrence}
 use Rattle.occurrences.specs.Occurrences.{no_occurrence}
-use Rattle.occurrences.specs.Packed.{Notes, Stand, Stands, Within}
+use Rattle.occurrences.specs.Packed.{Notes, NotesOf, Stand, Stands, Within}
 use Rattle.occurrences.proofs.Packed.{stand-at, stand-length, stand-none, stands-within}
 use Rattle.waiting_lists.specs.declared.WaitingList.{WaitingList}
 use Rattle.waiting_lists.specs.Lists.{Placed, Waits, list_of, order_of, place_in, waiters_of}
@@ -35,8 +36,9 @@ module _ {ticks globals : List ℕ} (t : Notes ticks globals) (w : List (List �
       let j : i < (list_of w).len = omega (arith, waits-length, k) in
       subst (λ p. Stands t p (get_or l i no_occurrence)) (waiter_at w i j) (stand-at t (waiters_of (list_of w) w) l i h.stand (omega (arith, length_waiters (list_of w) w, j)))
 
-  pub waits-bytes : (i : ℕ) → i < length l → Within ticks globals (get_or w (place_in (list_of w).order i + 1) [])
-  waits-bytes i k = stands-within t _ _ (waits-at i k)
+pub waits-bytes : (notes : List Note) (t : NotesOf notes) (w : List (List ℕ)) (l : List Occurrence) → Waits t w l
+    → (i : ℕ) → i < length l → Within notes (get_or w (place_in (list_of w).order i + 1) [])
+waits-bytes notes t w l h i k = stands-within notes t _ _ (waits-at t w l h i k)
 
 list-first : (w : List (List ℕ)) → get_or w 0 [] ≡ (0 ∷ 0 ∷ 0 ∷ []) → list_of w ≡ record { order = 18364758544493064720; len = 0 }
 unfolding list_of order_of
@@ -82,5 +84,6 @@ module _ {ticks globals : List ℕ} (t : Notes ticks globals) (w : List (List �
     pub read_at : Stands t (get_or w place []) (get_or l i no_occurrence)
     read_at = subst (λ (n : ℕ). Stands t (get_or w n []) (get_or l i no_occurrence)) (sym place_is) (waits-at t w l h i in_list)
 
-    pub read-bytes : Within ticks globals (get_or w place [])
-    read-bytes = stands-within t _ _ read_at
+pub read-bytes : (notes : List Note) (t : NotesOf notes) (w : List (List ℕ)) (l : List Occurrence) → Waits t w l
+    → (list : WaitingList) → list ≡ list_of w → (i place : ℕ) → place ≡ place_in list.order i + 1 → i < list.len → Within notes (get_or w place [])
+read-bytes notes t w l h list e i place p k = stands-within notes t _ _ (read_at t w l h list e i place p k)

@@ -3,8 +3,9 @@ use Rattle.std.specs.Prelude.{Bool, List, [], map, ◌⊎◌, ◌≡◌, ℕ, �
 use Rattle.sequences.specs.Choice.{pick}
 use Rattle.sequences.specs.Marks.{unmarked}
 use Rattle.sequences.specs.Range.{numbers_from}
+use Rattle.timestamps.specs.declared.Note.{Note}
 use Rattle.occurrences.specs.declared.Occurrence.{Occurrence}
-use Rattle.occurrences.specs.Packed.{Notes, Stand, Stands}
+use Rattle.occurrences.specs.Packed.{Notes, NotesOf, Stand, Stands}
 use Rattle.waiting_lists.specs.declared.WaitingList.{WaitingList}
 use Rattle.waiting_lists.specs.Waiting.{appended_to}
 
@@ -55,16 +56,16 @@ abbrev pub Roomy : List (List ℕ) → List Occurrence → ℕ → Type 0
 Roomy w l n = (length l + n < length w) ⊎ (length w ≡ 17)
 
 -- ---- that there are such notes and occurrences; and an arrival among them
-abbrev pub Known : (ticks globals : List ℕ) (w : List (List ℕ)) → Type 0
-Known ticks globals w = (t : Notes ticks globals) × (l : List Occurrence) × Waits t w l
+abbrev pub Known : (notes : List Note) (w : List (List ℕ)) → Type 0
+Known notes w = (t : NotesOf notes) × (l : List Occurrence) × Waits t w l
 
-abbrev pub Arrives : (ticks globals : List ℕ) (w : List (List ℕ)) (p : List ℕ) → Type 0
-Arrives ticks globals w p = (t : Notes ticks globals) × (l : List Occurrence) × (x : Occurrence) × Waits t w l × Stands t p x
+abbrev pub Arrives : (notes : List Note) (w : List (List ℕ)) (p : List ℕ) → Type 0
+Arrives notes w p = (t : NotesOf notes) × (l : List Occurrence) × (x : Occurrence) × Waits t w l × Stands t p x
 
 -- and beside two lists
-abbrev pub KnownBoth : (ticks globals : List ℕ) (v w : List (List ℕ)) → Type 0
-KnownBoth ticks globals v w = (t : Notes ticks globals) × (k : List Occurrence) × (l : List Occurrence) × Waits t v k × Waits t w l
+abbrev pub KnownBoth : (notes : List Note) (v w : List (List ℕ)) → Type 0
+KnownBoth notes v w = (t : NotesOf notes) × (k : List Occurrence) × (l : List Occurrence) × Waits t v k × Waits t w l
 
-abbrev pub Beside : (ticks globals : List ℕ) (v w : List (List ℕ)) (p : List ℕ) → Type 0
-Beside ticks globals v w p =
-    (t : Notes ticks globals) × (k : List Occurrence) × (l : List Occurrence) × (x : Occurrence) × Waits t v k × Waits t w l × Stands t p x
+abbrev pub Beside : (notes : List Note) (v w : List (List ℕ)) (p : List ℕ) → Type 0
+Beside notes v w p =
+    (t : NotesOf notes) × (k : List Occurrence) × (l : List Occurrence) × (x : Occurrence) × Waits t v k × Waits t w l × Stands t p x
