@@ -14,6 +14,7 @@ use Rattle.sequences.proofs.Arrays.{get_or_zip, length_zip}
 use Rattle.sequences.proofs.Parts.{get_or_map}
 use Rattle.sequences.proofs.Marks.{any_marked_no, any_marked_yes, fold-marked, padded-start}
 use Rattle.sequences.proofs.Select.{any_none}
+use Rattle.timestamps.specs.declared.Note.{Note}
 use Rattle.timestamps.specs.declared.GlobalTick.{GlobalTick}
 use Rattle.timestamps.specs.declared.Order.{Order}
 use Rattle.timestamps.specs.declared.Order.TheVariants.{Incomparable, Before, After, Concurrent}
@@ -70,20 +71,20 @@ word_tells earliest clocks w c h = after_turned clocks w c h
 word_tells every clocks w c h = refl
 
 -- the lowest of one more
-pub lows_turn : (globals : List ℕ) (w : List (List ℕ)) (lows : List GlobalTick) (list : WaitingList) (i place : ℕ) (v : GlobalTick) → list ≡ list_of w → place ≡ place_in list.order i + 1 → i < length lows
-    → LowestOf globals (get_or w place []) v.0 → Lows globals w i lows → Lows globals w (i + 1) (set lows i v)
-lows_turn globals w lows list i place v is p h e l =
+pub lows_turn : (notes : List Note) (w : List (List ℕ)) (lows : List GlobalTick) (list : WaitingList) (i place : ℕ) (v : GlobalTick) → list ≡ list_of w → place ≡ place_in list.order i + 1 → i < length lows
+    → LowestOf notes (get_or w place []) v.0 → Lows notes w i lows → Lows notes w (i + 1) (set lows i v)
+lows_turn notes w lows list i place v is p h e l =
     let q : place ≡ place_in (list_of w).order i + 1 = p ∙ ap (λ (x : WaitingList). place_in x.order i + 1) is in
-    next_place (λ j. LowestOf globals (get_or w (place_in (list_of w).order j + 1) []) (get_or (set lows i v) j no_tick).0) i
+    next_place (λ j. LowestOf notes (get_or w (place_in (list_of w).order j + 1) []) (get_or (set lows i v) j no_tick).0) i
     (λ j m. rw (get_or-set_other lows i j v no_tick (λ d. omega (arith, d, m))) (l j m))
     (rw (get_or-set_same lows i v no_tick h, ← q) e)
 
 -- what is kept of one that the code reads
-pub lows_at : (globals : List ℕ) (w : List (List ℕ)) (lows : List GlobalTick) (list : WaitingList) (n i place : ℕ) → list ≡ list_of w → place ≡ place_in list.order i + 1 → i < n → Lows globals w n lows
-    → LowestOf globals (get_or w place []) (get_or lows i no_tick).0
-lows_at globals w lows list n i place is p h l =
+pub lows_at : (notes : List Note) (w : List (List ℕ)) (lows : List GlobalTick) (list : WaitingList) (n i place : ℕ) → list ≡ list_of w → place ≡ place_in list.order i + 1 → i < n → Lows notes w n lows
+    → LowestOf notes (get_or w place []) (get_or lows i no_tick).0
+lows_at notes w lows list n i place is p h l =
     let q : place ≡ place_in (list_of w).order i + 1 = p ∙ ap (λ (x : WaitingList). place_in x.order i + 1) is in
-    subst (λ (m : ℕ). LowestOf globals (get_or w m []) (get_or lows i no_tick).0) (sym q) (l i h)
+    subst (λ (m : ℕ). LowestOf notes (get_or w m []) (get_or lows i no_tick).0) (sym q) (l i h)
 
 -- a candidate is taken where no candidate bars it
 pub takes_unbarred : (t : Taken) (clocks : Clocks) (candidates : List Occurrence) (w : Occurrence) → not (some_passes (bars_of t clocks w) candidates) ≡ takes t clocks candidates w

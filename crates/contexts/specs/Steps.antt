@@ -3,6 +3,7 @@ use Rattle.std.specs.Prelude.{◌≡◌, ℕ, ◌+◌, ◌<◌, Bool, false, ◌
 use mathlib.Core.List.{zip_with}
 use Rattle.sequences.specs.Marks.{padded}
 use Rattle.sequences.specs.Select.{some_passes}
+use Rattle.timestamps.specs.declared.Note.{Note}
 use Rattle.timestamps.specs.declared.GlobalTick.{GlobalTick}
 use Rattle.timestamps.specs.declared.Order.{Order}
 use Rattle.timestamps.specs.declared.Order.TheVariants.{Before, After}
@@ -31,8 +32,8 @@ abbrev pub no_tick : GlobalTick
 no_tick = record { 0 = 0 }
 
 -- the lowest global tick of each of the first n that wait
-abbrev pub Lows : List ℕ → List (List ℕ) → ℕ → List GlobalTick → Type 0
-Lows globals w n lows = (i : ℕ) → i < n → LowestOf globals (slice_index_or w (place_in (list_of w).order i + 1) []) (slice_index_or lows i no_tick).0
+abbrev pub Lows : List Note → List (List ℕ) → ℕ → List GlobalTick → Type 0
+Lows notes w n lows = (i : ℕ) → i < n → LowestOf notes (slice_index_or w (place_in (list_of w).order i + 1) []) (slice_index_or lows i no_tick).0
 
 -- of the middles marked, the marks of those after one of these lefts
 unfoldable pub after_marks : Clocks → (lefts middles : List Occurrence) → List Bool → List Bool

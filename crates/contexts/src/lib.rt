@@ -8,7 +8,7 @@ ghost use Rattle.sequences.specs.Select.{some_passes};
 ghost use Rattle.occurrences.specs.declared.Occurrence.{Occurrence};
 ghost use Rattle.occurrences.specs.Combination.{combined_of};
 ghost use Rattle.occurrences.specs.Occurrences.{is_before, no_occurrence};
-ghost use Rattle.occurrences.specs.Packed.{Notes, Stands, Within};
+ghost use Rattle.occurrences.specs.Packed.{NotesOf, Stands, Within};
 ghost use Rattle.occurrences.specs.Steps.{LowestOf};
 ghost use Rattle.waiting_lists.specs.Lists.{Arrives, Beside, Known, KnownBoth, Waits, list_of};
 ghost use Rattle.waiting_lists.specs.Marks.{marks_of};
@@ -18,7 +18,7 @@ ghost use Rattle.contexts.specs.Steps.{Lows, Some, after_marks, bars_by, bars_of
 ghost use Rattle.contexts.specs.Table.{consumed, each, joins, recent, row_of, table, together};
 
 use occurrences::Packed;
-use timestamps::{GlobalTick, Order};
+use timestamps::{GlobalTick, Note, Order};
 
 // ---- the table
 
@@ -114,19 +114,19 @@ pub fn row_of(context: u64) -> Context
 // ---- candidates
 
 // SEQ: those whose timestamp is before the arrival's.
-pub fn before_arrival(list: &[Packed], o: &Packed, ticks: &[u64], globals: &[u64]) -> u64
-    requires { Arrives ticks.now globals.now list.now o.now }
-    ensures { (t : Notes ticks.now globals.now) (l : List Occurrence) (x : Occurrence)
+pub fn before_arrival(list: &[Packed], o: &Packed, notes: &[Note]) -> u64
+    requires { Arrives notes.now list.now o.now }
+    ensures { (t : NotesOf notes.now) (l : List Occurrence) (x : Occurrence)
         → Waits t list.now l → Stands t o.now x
         → marks_of result ≡ seq_candidates t.clocks l x }
 {
-    let first = occurrences::lowest(o, globals);
+    let first = occurrences::lowest(o, notes);
     let waiting = waiting_lists::list_of(list);
     let mut marks: u64 = 0;
     for i in 0..waiting.len {
         let place = waiting_lists::place_at(waiting, i);
-        let low = occurrences::lowest(&list[place], globals);
-        let word = occurrences::order(low, &list[place], first, o, ticks, globals);
+        let low = occurrences::lowest(&list[place], notes);
+        let word = occurrences::order(low, &list[place], first, o, notes);
         marks = waiting_lists::with_mark(marks, i, word == Order::Before);
     }
     marks
@@ -149,19 +149,18 @@ fn is_blocked_by(
     middle: &Packed,
     first: GlobalTick,
     o: &Packed,
-    ticks: &[u64],
-    globals: &[u64],
+    notes: &[Note],
 ) -> bool
-    requires { Within ticks.now globals.now left.now × Within ticks.now globals.now middle.now
-        × Within ticks.now globals.now o.now }
-    ensures { (t : Notes ticks.now globals.now) (x y z : Occurrence)
-        → LowestOf globals.now left.now low.0 → LowestOf globals.now o.now first.0
+    requires { Within notes.now left.now × Within notes.now middle.now
+        × Within notes.now o.now }
+    ensures { (t : NotesOf notes.now) (x y z : Occurrence)
+        → LowestOf notes.now left.now low.0 → LowestOf notes.now o.now first.0
         → Stands t left.now x → Stands t middle.now y → Stands t o.now z
         → result ≡ blocks t.clocks x z y }
 {
-    let own = occurrences::lowest(middle, globals);
-    occurrences::weakly_before(low, left, own, middle, ticks, globals)
-        && occurrences::weakly_before(own, middle, first, o, ticks, globals)
+    let own = occurrences::lowest(middle, notes);
+    occurrences::weakly_before(low, left, own, middle, notes)
+        && occurrences::weakly_before(own, middle, first, o, notes)
 }
 
 // Whether one of the first so many waiting middles blocks it; with the lowest global ticks as above.
@@ -172,20 +171,19 @@ fn is_blocked(
     blockers: usize,
     first: GlobalTick,
     o: &Packed,
-    ticks: &[u64],
-    globals: &[u64],
+    notes: &[Note],
 ) -> bool
-    requires { Within ticks.now globals.now left.now × Arrives ticks.now globals.now middles.now o.now
+    requires { Within notes.now left.now × Arrives notes.now middles.now o.now
         × (blockers ≤ (list_of middles.now).len) }
-    ensures { (t : Notes ticks.now globals.now) (l : List Occurrence) (x z : Occurrence)
-        → LowestOf globals.now left.now low.0 → LowestOf globals.now o.now first.0
+    ensures { (t : NotesOf notes.now) (l : List Occurrence) (x z : Occurrence)
+        → LowestOf notes.now left.now low.0 → LowestOf notes.now o.now first.0
         → Waits t middles.now l → Stands t left.now x → Stands t o.now z
         → result ≡ some_passes (blocks t.clocks x z) (take blockers l) }
 {
     let waiting = waiting_lists::list_of(middles);
     for j in 0..blockers {
         let place = waiting_lists::place_at(waiting, j);
-        if is_blocked_by(low, left, &middles[place], first, o, ticks, globals) {
+        if is_blocked_by(low, left, &middles[place], first, o, notes) {
             return true;
         }
     }
@@ -199,19 +197,18 @@ fn is_free(
     blockers: usize,
     first: GlobalTick,
     o: &Packed,
-    ticks: &[u64],
-    globals: &[u64],
+    notes: &[Note],
 ) -> bool
-    requires { Within ticks.now globals.now left.now × Arrives ticks.now globals.now middles.now o.now
+    requires { Within notes.now left.now × Arrives notes.now middles.now o.now
         × (blockers ≤ (list_of middles.now).len) }
-    ensures { (t : Notes ticks.now globals.now) (l : List Occurrence) (x z : Occurrence)
-        → LowestOf globals.now o.now first.0
+    ensures { (t : NotesOf notes.now) (l : List Occurrence) (x z : Occurrence)
+        → LowestOf notes.now o.now first.0
         → Waits t middles.now l → Stands t left.now x → Stands t o.now z
         → result ≡ (is_before t.clocks x z && not (some_passes (blocks t.clocks x z) (take blockers l))) }
 {
-    let low = occurrences::lowest(left, globals);
-    let word = occurrences::order(low, left, first, o, ticks, globals);
-    word == Order::Before && !is_blocked(low, left, middles, blockers, first, o, ticks, globals)
+    let low = occurrences::lowest(left, notes);
+    let word = occurrences::order(low, left, first, o, notes);
+    word == Order::Before && !is_blocked(low, left, middles, blockers, first, o, notes)
 }
 
 // The lefts before the arrival that none of the first so many middles blocks: with none, all that are before it.
@@ -220,20 +217,19 @@ pub fn unblocked(
     middles: &[Packed],
     blockers: usize,
     o: &Packed,
-    ticks: &[u64],
-    globals: &[u64],
+    notes: &[Note],
 ) -> u64
-    requires { Beside ticks.now globals.now lefts.now middles.now o.now × (blockers ≤ (list_of middles.now).len) }
-    ensures { (t : Notes ticks.now globals.now) (k l : List Occurrence) (x : Occurrence)
+    requires { Beside notes.now lefts.now middles.now o.now × (blockers ≤ (list_of middles.now).len) }
+    ensures { (t : NotesOf notes.now) (k l : List Occurrence) (x : Occurrence)
         → Waits t lefts.now k → Waits t middles.now l → Stands t o.now x
         → marks_of result ≡ absence_candidates t.clocks k (take blockers l) x }
 {
-    let first = occurrences::lowest(o, globals);
+    let first = occurrences::lowest(o, notes);
     let waiting = waiting_lists::list_of(lefts);
     let mut marks: u64 = 0;
     for i in 0..waiting.len {
         let place = waiting_lists::place_at(waiting, i);
-        let free = is_free(&lefts[place], middles, blockers, first, o, ticks, globals);
+        let free = is_free(&lefts[place], middles, blockers, first, o, notes);
         marks = waiting_lists::with_mark(marks, i, free);
     }
     marks
@@ -252,14 +248,14 @@ pub struct Choice {
 type LowestTicks = [GlobalTick; 16];
 
 // They are filled in: an array handed back by value would be copied.
-fn lows_of(list: &[Packed], ticks: &[u64], globals: &[u64], lows: &mut LowestTicks)
-    requires { Known ticks.now globals.now list.now }
-    ensures { Lows globals.now list.now (list_of list.now).len lows.new }
+fn lows_of(list: &[Packed], notes: &[Note], lows: &mut LowestTicks)
+    requires { Known notes.now list.now }
+    ensures { Lows notes.now list.now (list_of list.now).len lows.new }
 {
     let waiting = waiting_lists::list_of(list);
     for i in 0..waiting.len {
         let place = waiting_lists::place_at(waiting, i);
-        lows[i] = occurrences::lowest(&list[place], globals);
+        lows[i] = occurrences::lowest(&list[place], notes);
     }
 }
 
@@ -281,16 +277,15 @@ fn bars(
     w: &Packed,
     other: GlobalTick,
     c: &Packed,
-    ticks: &[u64],
-    globals: &[u64],
+    notes: &[Note],
 ) -> bool
-    requires { Within ticks.now globals.now w.now × Within ticks.now globals.now c.now }
-    ensures { (t : Notes ticks.now globals.now) (x y : Occurrence)
-        → LowestOf globals.now w.now low.0 → LowestOf globals.now c.now other.0
+    requires { Within notes.now w.now × Within notes.now c.now }
+    ensures { (t : NotesOf notes.now) (x y : Occurrence)
+        → LowestOf notes.now w.now low.0 → LowestOf notes.now c.now other.0
         → Stands t w.now x → Stands t c.now y
         → result ≡ bars_of rule t.clocks x y }
 {
-    let word = occurrences::order(low, w, other, c, ticks, globals);
+    let word = occurrences::order(low, w, other, c, notes);
     word_bars(rule, word)
 }
 
@@ -309,12 +304,11 @@ fn barred(
     list: &[Packed],
     lows: &LowestTicks,
     candidates: u64,
-    ticks: &[u64],
-    globals: &[u64],
+    notes: &[Note],
 ) -> bool
-    requires { (i < (list_of list.now).len) × Known ticks.now globals.now list.now }
-    ensures { (t : Notes ticks.now globals.now) (l : List Occurrence)
-        → Waits t list.now l → Lows globals.now list.now (length l) lows.now
+    requires { (i < (list_of list.now).len) × Known notes.now list.now }
+    ensures { (t : NotesOf notes.now) (l : List Occurrence)
+        → Waits t list.now l → Lows notes.now list.now (length l) lows.now
         → result ≡ some_passes (bars_of rule t.clocks (slice_index_or l i no_occurrence)) (marked l (marks_of candidates)) }
 {
     let waiting = waiting_lists::list_of(list);
@@ -328,8 +322,7 @@ fn barred(
                 &list[own],
                 lows[j],
                 &list[place],
-                ticks,
-                globals,
+                notes,
             )
         {
             return true;
@@ -345,16 +338,15 @@ fn is_taken(
     list: &[Packed],
     lows: &LowestTicks,
     candidates: u64,
-    ticks: &[u64],
-    globals: &[u64],
+    notes: &[Note],
 ) -> bool
-    requires { (i < (list_of list.now).len) × Known ticks.now globals.now list.now }
-    ensures { (t : Notes ticks.now globals.now) (l : List Occurrence)
-        → Waits t list.now l → Lows globals.now list.now (length l) lows.now
+    requires { (i < (list_of list.now).len) × Known notes.now list.now }
+    ensures { (t : NotesOf notes.now) (l : List Occurrence)
+        → Waits t list.now l → Lows notes.now list.now (length l) lows.now
         → result ≡ (slice_index_or (marks_of candidates) i false && takes rule t.clocks (marked l (marks_of candidates)) (slice_index_or l i no_occurrence)) }
 {
     waiting_lists::is_marked(candidates, i)
-        && !barred(rule, i, list, lows, candidates, ticks, globals)
+        && !barred(rule, i, list, lows, candidates, notes)
 }
 
 // Whether no more than one is marked.
@@ -366,9 +358,9 @@ fn at_most_one(marks: u64) -> bool
 }
 
 // Those that a rule takes of the candidates. An only one is taken by each rule, without a look at it.
-fn taken_by(rule: Taken, list: &[Packed], candidates: u64, ticks: &[u64], globals: &[u64]) -> u64
-    requires { Known ticks.now globals.now list.now }
-    ensures { (t : Notes ticks.now globals.now) (l : List Occurrence) → Waits t list.now l
+fn taken_by(rule: Taken, list: &[Packed], candidates: u64, notes: &[Note]) -> u64
+    requires { Known notes.now list.now }
+    ensures { (t : NotesOf notes.now) (l : List Occurrence) → Waits t list.now l
         → marks_of result ≡ taken_of rule t.clocks l (marks_of candidates) }
 {
     let waiting = waiting_lists::list_of(list);
@@ -376,10 +368,10 @@ fn taken_by(rule: Taken, list: &[Packed], candidates: u64, ticks: &[u64], global
         return candidates & all_waiting(waiting.len);
     }
     let mut lows = [GlobalTick(0); 16];
-    lows_of(list, ticks, globals, &mut lows);
+    lows_of(list, notes, &mut lows);
     let mut marks: u64 = 0;
     for i in 0..waiting.len {
-        let taken = is_taken(rule, i, list, &lows, candidates, ticks, globals);
+        let taken = is_taken(rule, i, list, &lows, candidates, notes);
         marks = waiting_lists::with_mark(marks, i, taken);
     }
     marks
@@ -401,16 +393,15 @@ pub fn choose(
     context: u64,
     list: &[Packed],
     candidates: u64,
-    ticks: &[u64],
-    globals: &[u64],
+    notes: &[Note],
 ) -> Choice
-    requires { Known ticks.now globals.now list.now }
-    ensures { (t : Notes ticks.now globals.now) (l : List Occurrence) → Waits t list.now l
+    requires { Known notes.now list.now }
+    ensures { (t : NotesOf notes.now) (l : List Occurrence) → Waits t list.now l
         → (marks_of result.taken ≡ (chosen (row_of context) t.clocks l (marks_of candidates)).taken)
         × (marks_of result.removed ≡ (chosen (row_of context) t.clocks l (marks_of candidates)).removed) }
 {
     let row = row_of(context);
-    let taken = taken_by(row.takes, list, candidates, ticks, globals);
+    let taken = taken_by(row.takes, list, candidates, notes);
     let removed = removed_by(row.removes, candidates, taken);
     Choice { taken, removed }
 }
@@ -436,11 +427,10 @@ pub fn all_combined(
     list: &[Packed],
     taken: u64,
     o: &Packed,
-    ticks: &[u64],
-    globals: &[u64],
+    notes: &[Note],
 ) -> Packed
-    requires { Arrives ticks.now globals.now list.now o.now }
-    ensures { (t : Notes ticks.now globals.now) (l : List Occurrence) (x : Occurrence)
+    requires { Arrives notes.now list.now o.now }
+    ensures { (t : NotesOf notes.now) (l : List Occurrence) (x : Occurrence)
         → Waits t list.now l → Stands t o.now x
         → Stands t result (fold (combined_of t.clocks) (marked l (marks_of taken)) x) }
 {
@@ -449,7 +439,7 @@ pub fn all_combined(
     for i in 0..waiting.len {
         if waiting_lists::is_marked(taken, i) {
             let place = waiting_lists::place_at(waiting, i);
-            all = occurrences::combined(&all, &list[place], ticks, globals);
+            all = occurrences::combined(&all, &list[place], notes);
         }
     }
     all
@@ -458,21 +448,21 @@ pub fn all_combined(
 // ---- what is accumulated
 
 // Whether one of those marked is before this middle.
-fn some_before(list: &[Packed], marks: u64, middle: &Packed, ticks: &[u64], globals: &[u64]) -> bool
-    requires { Arrives ticks.now globals.now list.now middle.now }
-    ensures { (t : Notes ticks.now globals.now) (l : List Occurrence) (x : Occurrence)
+fn some_before(list: &[Packed], marks: u64, middle: &Packed, notes: &[Note]) -> bool
+    requires { Arrives notes.now list.now middle.now }
+    ensures { (t : NotesOf notes.now) (l : List Occurrence) (x : Occurrence)
         → Waits t list.now l → Stands t middle.now x
         → result ≡ some_passes (λ w. is_before t.clocks w x) (marked l (marks_of marks)) }
 {
-    let first = occurrences::lowest(middle, globals);
+    let first = occurrences::lowest(middle, notes);
     let waiting = waiting_lists::list_of(list);
     let mut rest = marks;
     // A loop over the marks, and not over all that wait: few are marked. It ends by number 16, which `first_marked` says where none is left.
     let mut i = waiting_lists::first_marked(rest);
     while i < waiting.len {
         let place = waiting_lists::place_at(waiting, i);
-        let low = occurrences::lowest(&list[place], globals);
-        let word = occurrences::order(low, &list[place], first, middle, ticks, globals);
+        let low = occurrences::lowest(&list[place], notes);
+        let word = occurrences::order(low, &list[place], first, middle, notes);
         if word == Order::Before {
             return true;
         }
@@ -489,11 +479,10 @@ fn between(
     marks: u64,
     middles: &[Packed],
     earlier: u64,
-    ticks: &[u64],
-    globals: &[u64],
+    notes: &[Note],
 ) -> u64
-    requires { KnownBoth ticks.now globals.now lefts.now middles.now }
-    ensures { (t : Notes ticks.now globals.now) (k l : List Occurrence)
+    requires { KnownBoth notes.now lefts.now middles.now }
+    ensures { (t : NotesOf notes.now) (k l : List Occurrence)
         → Waits t lefts.now k → Waits t middles.now l
         → marks_of result ≡ after_marks t.clocks (marked k (marks_of marks)) l (marks_of earlier) }
 {
@@ -502,7 +491,7 @@ fn between(
     for i in 0..waiting.len {
         let place = waiting_lists::place_at(waiting, i);
         let mark = waiting_lists::is_marked(earlier, i)
-            && some_before(lefts, marks, &middles[place], ticks, globals);
+            && some_before(lefts, marks, &middles[place], notes);
         found = waiting_lists::with_mark(found, i, mark);
     }
     found
@@ -515,17 +504,16 @@ pub fn accumulated(
     middles: &[Packed],
     earlier: u64,
     o: &Packed,
-    ticks: &[u64],
-    globals: &[u64],
+    notes: &[Note],
 ) -> Packed
-    requires { Beside ticks.now globals.now lefts.now middles.now o.now }
-    ensures stands { (t : Notes ticks.now globals.now) (k l : List Occurrence) (x : Occurrence)
+    requires { Beside notes.now lefts.now middles.now o.now }
+    ensures stands { (t : NotesOf notes.now) (k l : List Occurrence) (x : Occurrence)
         → Waits t lefts.now k → Waits t middles.now l → Stands t o.now x
         → marks_of earlier ≡ seq_candidates t.clocks l x → Some (marked k (marks_of marks))
         → Stands t result (accumulation_of t.clocks (marked k (marks_of marks)) l x) }
-    ensures within { Within ticks.now globals.now result }
+    ensures within { Within notes.now result }
 {
-    let found = between(lefts, marks, middles, earlier, ticks, globals);
-    let all = all_combined(lefts, marks, o, ticks, globals);
-    all_combined(middles, found, &all, ticks, globals)
+    let found = between(lefts, marks, middles, earlier, notes);
+    let all = all_combined(lefts, marks, o, notes);
+    all_combined(middles, found, &all, notes)
 }

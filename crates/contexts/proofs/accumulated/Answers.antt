@@ -29,5 +29,5 @@ returns c =
           subst (Stands t c.all_combined.result)
           (accumulation_is t.clocks (marked k (marks_of s.args.marks)) l x (marks_of s.args.earlier) (marks_of found.between-found.result) early some (found.between-found.ensures t k l h g))
           (c.all_combined.ensures t l _ g (one.all_combined-all.ensures t k x h p)));
-      within = stands-within t₀ _ _ (c.all_combined.ensures t₀ l₀ _ g₀ (one.all_combined-all.ensures t₀ k₀ x₀ h₀ p₀));
+      within = stands-within _ t₀ _ _ (c.all_combined.ensures t₀ l₀ _ g₀ (one.all_combined-all.ensures t₀ k₀ x₀ h₀ p₀));
     }

@@ -21,8 +21,8 @@ waits list w i is h = omega (arith, ap (λ (x : WaitingList). x.len) is)
 pub bars-requires : goal.bars-requires
 bars-requires c =
     let (here, (t, l, h)) = c.requires in (
-      read-bytes t _ l h _ c.list_of-waiting.ensures _ _ c.place_at-own.ensures (waits _ _ _ c.list_of-waiting.ensures here),
-      read-bytes t _ l h _ c.list_of-waiting.ensures _ _ c.place_at-place.ensures c.loop-j-test.true,
+      read-bytes _ t _ l h _ c.list_of-waiting.ensures _ _ c.place_at-own.ensures (waits _ _ _ c.list_of-waiting.ensures here),
+      read-bytes _ t _ l h _ c.list_of-waiting.ensures _ _ c.place_at-place.ensures c.loop-j-test.true,
     )
 
 pub returns-then-bars : goal.returns-then-bars

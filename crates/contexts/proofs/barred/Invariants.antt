@@ -2,7 +2,7 @@
 use Rattle.std.proofs.Common.{◌≡◌, List, length, get_or, drop}
 use Rattle.contexts.specs.Steps.{Lows, bars_of}
 use Rattle.occurrences.specs.Occurrences.{no_occurrence}
-use Rattle.occurrences.specs.Packed.{Notes}
+use Rattle.occurrences.specs.Packed.{Notes, NotesOf}
 use Rattle.occurrences.specs.declared.Occurrence.{Occurrence}
 use Rattle.sequences.specs.Marks.{marked}
 use Rattle.sequences.specs.Select.{some_passes}
@@ -12,6 +12,6 @@ use Rattle.contexts.proofs.barred.Given as goal
 
 abbrev pub invariant-loop-j : goal.invariant-loop-j
 invariant-loop-j v =
-    (t : Notes v.ticks v.globals) (l : List Occurrence) → Waits t v.list l → Lows v.globals v.list (length l) v.lows
+    (t : NotesOf v.notes) (l : List Occurrence) → Waits t v.list l → Lows v.notes v.list (length l) v.lows
     → some_passes (bars_of v.rule t.clocks (get_or l v.i no_occurrence)) (marked (drop v.j l) (drop v.j (marks_of v.candidates)))
     ≡ some_passes (bars_of v.rule t.clocks (get_or l v.i no_occurrence)) (marked l (marks_of v.candidates))

@@ -17,10 +17,10 @@ loop-i-init c = λ t l x h p. marks_none ∙ padded-start 16
 pub lowest-low-requires : goal.lowest-low-requires
 lowest-low-requires c =
     let (t, l, x, h, p) = c.requires in
-    λ k m. (read-bytes t _ l h _ c.list_of-waiting.ensures _ _ c.place_at-place.ensures c.loop-i-test.true k m).1
+    read-bytes _ t _ l h _ c.list_of-waiting.ensures _ _ c.place_at-place.ensures c.loop-i-test.true
 
 pub order-word-requires : goal.order-word-requires
-order-word-requires c = let (t, l, x, h, p) = c.requires in (read-bytes t _ l h _ c.list_of-waiting.ensures _ _ c.place_at-place.ensures c.loop-i-test.true, stands-within t _ x p)
+order-word-requires c = let (t, l, x, h, p) = c.requires in (read-bytes _ t _ l h _ c.list_of-waiting.ensures _ _ c.place_at-place.ensures c.loop-i-test.true, stands-within _ t _ x p)
 
 pub loop-i-preserved : goal.loop-i-preserved
 loop-i-preserved c = λ t l x h p.

@@ -21,7 +21,7 @@ most t w l n h few = omega (arith, waits-length t w l h)
 pub is_blocked_by-requires : goal.is_blocked_by-requires
 is_blocked_by-requires c =
     let (own, (t, l, z, h, p), few) = c.requires in
-    (own, read-bytes t _ l h _ c.list_of-waiting.ensures _ _ c.place_at-place.ensures (one_of _ _ _ _ c.list_of-waiting.ensures few c.loop-j-test.true), stands-within t _ z p)
+    (own, read-bytes _ t _ l h _ c.list_of-waiting.ensures _ _ c.place_at-place.ensures (one_of _ _ _ _ c.list_of-waiting.ensures few c.loop-j-test.true), stands-within _ t _ z p)
 
 pub returns-then-is_blocked_by : goal.returns-then-is_blocked_by
 returns-then-is_blocked_by c = λ t l x z own low h p r.

@@ -4,4 +4,4 @@ use Rattle.contexts.specs.Steps.{Lows}
 use Rattle.contexts.proofs.lows_of.Given as goal
 
 abbrev pub invariant-loop-i : goal.invariant-loop-i
-invariant-loop-i l = (length l.lows ≡ 16) × Lows l.globals l.list l.i l.lows
+invariant-loop-i l = (length l.lows ≡ 16) × Lows l.notes l.list l.i l.lows

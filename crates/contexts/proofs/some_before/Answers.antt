@@ -13,10 +13,10 @@ use Rattle.waiting_lists.specs.Marks.{marks_of}
 use Rattle.contexts.proofs.some_before.Goals as goal
 
 pub lowest-low-requires : goal.lowest-low-requires
-lowest-low-requires c = let (t, l, x, h, p) = c.requires in λ k m. (read-bytes t _ l h _ c.list_of-waiting.ensures _ _ c.place_at-place.ensures c.loop-i-test.true k m).1
+lowest-low-requires c = let (t, l, x, h, p) = c.requires in read-bytes _ t _ l h _ c.list_of-waiting.ensures _ _ c.place_at-place.ensures c.loop-i-test.true
 
 pub order-word-requires : goal.order-word-requires
-order-word-requires c = let (t, l, x, h, p) = c.requires in (read-bytes t _ l h _ c.list_of-waiting.ensures _ _ c.place_at-place.ensures c.loop-i-test.true, stands-within t _ x p)
+order-word-requires c = let (t, l, x, h, p) = c.requires in (read-bytes _ t _ l h _ c.list_of-waiting.ensures _ _ c.place_at-place.ensures c.loop-i-test.true, stands-within _ t _ x p)
 
 pub returns-then-eq : goal.returns-then-eq
 returns-then-eq c = λ t l x h p.

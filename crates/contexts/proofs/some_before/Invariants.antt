@@ -1,7 +1,7 @@
 -- What is left to look at tells the whole; i is the first mark left.
 use Rattle.std.proofs.Common.{◌≡◌, List}
 use Rattle.occurrences.specs.Occurrences.{is_before}
-use Rattle.occurrences.specs.Packed.{Notes, Stands}
+use Rattle.occurrences.specs.Packed.{Notes, NotesOf, Stands}
 use Rattle.occurrences.specs.declared.Occurrence.{Occurrence}
 use Rattle.sequences.specs.Marks.{first_mark, marked}
 use Rattle.sequences.specs.Select.{some_passes}
@@ -11,7 +11,7 @@ use Rattle.contexts.proofs.some_before.Given as goal
 
 abbrev pub invariant-loop-i : goal.invariant-loop-i
 invariant-loop-i v =
-    (v.i ≡ first_mark (marks_of v.rest)) × ((t : Notes v.ticks v.globals) (l : List Occurrence) (x : Occurrence) → Waits t v.list l → Stands t v.middle x
+    (v.i ≡ first_mark (marks_of v.rest)) × ((t : NotesOf v.notes) (l : List Occurrence) (x : Occurrence) → Waits t v.list l → Stands t v.middle x
     → some_passes (λ w. is_before t.clocks w x) (marked l (marks_of v.rest)) ≡ some_passes (λ w. is_before t.clocks w x) (marked l (marks_of v.marks)))
 
 abbrev pub decreases-loop-i : goal.decreases-loop-i

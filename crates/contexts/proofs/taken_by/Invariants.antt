@@ -1,7 +1,7 @@
 -- Every candidate that waits; else the marks before place i are those of the rule.
 use Rattle.std.proofs.Common.{◌≡◌, ◌&&◌, List, take}
 use Rattle.contexts.specs.Choice.{takes}
-use Rattle.occurrences.specs.Packed.{Notes}
+use Rattle.occurrences.specs.Packed.{Notes, NotesOf}
 use Rattle.occurrences.specs.declared.Occurrence.{Occurrence}
 use Rattle.sequences.specs.Marks.{marked, padded}
 use Rattle.waiting_lists.specs.Lists.{Waits}
@@ -11,5 +11,5 @@ use Rattle.contexts.proofs.taken_by.Given as goal
 
 abbrev pub invariant-loop-i : goal.invariant-loop-i
 invariant-loop-i v =
-    (t : Notes v.ticks v.globals) (l : List Occurrence) → Waits t v.list l
+    (t : NotesOf v.notes) (l : List Occurrence) → Waits t v.list l
     → marks_of v.marks ≡ padded 16 (take v.i (zip_with (λ w m. m && takes v.rule t.clocks (marked l (marks_of v.candidates)) w) l (marks_of v.candidates)))

@@ -16,7 +16,7 @@ loop-i-init c = λ t k l x h g p. marks_none ∙ padded-start 16
 pub is_free-free-requires : goal.is_free-free-requires
 is_free-free-requires c =
     let ((t, k, l, x, h, g, p), most) = c.requires in
-    (read-bytes t _ k h _ c.list_of-waiting.ensures _ _ c.place_at-place.ensures c.loop-i-test.true, (t, l, x, g, p), most)
+    (read-bytes _ t _ k h _ c.list_of-waiting.ensures _ _ c.place_at-place.ensures c.loop-i-test.true, (t, l, x, g, p), most)
 
 pub loop-i-preserved : goal.loop-i-preserved
 loop-i-preserved c = λ t k l x h g p.

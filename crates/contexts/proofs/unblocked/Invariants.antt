@@ -2,7 +2,7 @@
 use Rattle.std.proofs.Common.{◌≡◌, ℕ, Bool, not, ◌&&◌, List, map, take}
 use Rattle.contexts.specs.Choice.{blocks}
 use Rattle.occurrences.specs.Occurrences.{is_before}
-use Rattle.occurrences.specs.Packed.{Notes, Stands}
+use Rattle.occurrences.specs.Packed.{Notes, NotesOf, Stands}
 use Rattle.occurrences.specs.declared.Occurrence.{Occurrence}
 use Rattle.sequences.specs.Marks.{padded}
 use Rattle.sequences.specs.Select.{some_passes}
@@ -16,5 +16,5 @@ free t l x w = is_before t.clocks w x && not (some_passes (blocks t.clocks w x) 
 
 abbrev pub invariant-loop-i : goal.invariant-loop-i
 invariant-loop-i v =
-    (t : Notes v.ticks v.globals) (k l : List Occurrence) (x : Occurrence) → Waits t v.lefts k → Waits t v.middles l → Stands t v.o x
+    (t : NotesOf v.notes) (k l : List Occurrence) (x : Occurrence) → Waits t v.lefts k → Waits t v.middles l → Stands t v.o x
     → marks_of v.marks ≡ padded 16 (take v.i (map (free t (take v.blockers l) x) k))
