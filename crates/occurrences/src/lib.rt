@@ -87,11 +87,9 @@ fn later_of(i: usize, j: usize, ticks: &[u64]) -> usize
     requires { (i < length ticks.now) × (j < length ticks.now) }
     ensures { result ≡ later_of ticks.now i j }
 {
-    if LocalTick(ticks[i]).earlier(LocalTick(ticks[j])) {
-        j
-    } else {
-        i
-    }
+    let s = LocalTick(ticks[i]);
+    let t = LocalTick(ticks[j]);
+    if s.earlier(t) { j } else { i }
 }
 
 // Which events have the later timestamps, and the highest global tick of these plus one.
@@ -140,11 +138,8 @@ fn kept(i: usize, highest: GlobalTick, globals: &[u64]) -> usize
     requires { i < length globals.now }
     ensures { result ≡ kept_of globals.now highest.0 i }
 {
-    if GlobalTick(globals[i]).clearly_earlier(highest) {
-        0
-    } else {
-        i
-    }
+    let g = GlobalTick(globals[i]);
+    if g.clearly_earlier(highest) { 0 } else { i }
 }
 
 // At the first four logger places those that are not clearly earlier.
