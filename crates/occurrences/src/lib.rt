@@ -87,11 +87,9 @@ fn later_of(i: usize, j: usize, notes: &[Note]) -> usize
     requires { (i < length notes.now) × (j < length notes.now) }
     ensures { result ≡ later_of (ticks_of notes.now) i j }
 {
-    if LocalTick(notes[i].tick).earlier(LocalTick(notes[j].tick)) {
-        j
-    } else {
-        i
-    }
+    let s = LocalTick(notes[i].tick);
+    let t = LocalTick(notes[j].tick);
+    if s.earlier(t) { j } else { i }
 }
 
 // Which events have the later timestamps, and the highest global tick of these plus one.
@@ -140,11 +138,8 @@ fn kept(i: usize, highest: GlobalTick, notes: &[Note]) -> usize
     requires { i < length notes.now }
     ensures { result ≡ kept_of (globals_of notes.now) highest.0 i }
 {
-    if GlobalTick(notes[i].global).clearly_earlier(highest) {
-        0
-    } else {
-        i
-    }
+    let g = GlobalTick(notes[i].global);
+    if g.clearly_earlier(highest) { 0 } else { i }
 }
 
 // At the first four logger places those that are not clearly earlier.

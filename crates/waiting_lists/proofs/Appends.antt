@@ -8,7 +8,8 @@ use native.Mathlib.Nat.{zero-add}
 use native.Mathlib.Omega.{arith}
 use borrow.Author.Tests.{le-leb, lt-leb}
 use lib.ListN.{length, length-map, set}
-use lib.Seq.{get_or-set_other, get_or-set_same, set_out}
+use lib.Seq.{get_or-set_other, get_or-set_same}
+use Rattle.std.specs.Prelude.{Some, None}
 use Rattle.sequences.specs.Range.{numbers_from}
 use Rattle.sequences.proofs.Members.{map_same}
 use Rattle.sequences.proofs.Range.{length_range, range_next, range_none, range_of, range_split}
@@ -31,7 +32,7 @@ module _ {A : Type 0} (l : List A) (o : A) where
 
 -- ---- one more takes the place after those that wait, which none of them has
 module _ (list : WaitingList) where
-  pub appends_room : list.len < 16 → Appends list (place_in list.order list.len + 1) (record { order = list.order; len = list.len + 1 })
+  pub appends_room : list.len < 16 → Appends list (Some (place_in list.order list.len + 1)) (record { order = list.order; len = list.len + 1 })
   unfolding waiters_of
   appends_room h = record { waits = waits; placed = placed; behind = omega arith }
     where
@@ -52,12 +53,9 @@ module _ (list : WaitingList) where
       placed : (places : ℕ) → Placed list places → (list.len < places) ⊎ (places ≡ 16) → Placed (record { order = list.order; len = list.len + 1 }) places
       placed places p room = record { few = ⊎_elim (λ r. omega arith) (λ r. omega arith) room; most = p.most; inside = p.inside; distinct = p.distinct }
 
-  pub appends_full : 16 ≤ list.len → Appends list 17 list
+  pub appends_full : 16 ≤ list.len → Appends list None list
   appends_full h = record {
-    waits = λ w o p room.
-        let few = p.few in
-        let most = p.most in
-        rw (set_out w 17 o (omega arith)) (sym (appended_full (waiters_of list w) o (omega (arith, length_waiters list w, h))).1);
+    waits = λ w o p room. sym (appended_full (waiters_of list w) o (omega (arith, length_waiters list w, h))).1;
     placed = λ places p room. p;
-    behind = omega arith;
+    behind = tt;
   }

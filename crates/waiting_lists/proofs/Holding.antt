@@ -6,6 +6,7 @@ use mathlib.Core.Path.{◌≡◌, sym, ap, ap₂, subst, ◌∙◌}
 use Prim.Native.Nat.{ℕ, ◌+◌, ◌-◌, ◌<◌}
 use native.Mathlib.Omega.{arith}
 use lib.ListN.{length, length-set, set}
+use Rattle.std.specs.Prelude.{Some, None}
 use Rattle.sequences.specs.Marks.{unmarked}
 use Rattle.sequences.proofs.Marks.{map-unmarked}
 use Rattle.occurrences.specs.declared.Occurrence.{Occurrence}
@@ -32,7 +33,7 @@ module _ {ticks globals : List ℕ} (t : Notes ticks globals) where
 
   -- ---- what the code leaves
   module _ (w : List (List ℕ)) (l : List Occurrence) (h : Waits t w l) where
-    pub waits-appended : (place : ℕ) (more : WaitingList) (p : List ℕ) (o : Occurrence) → Appends (list_of w) place more → Roomy w l 1 → Stands t p o
+    pub waits-appended : (place : ℕ) (more : WaitingList) (p : List ℕ) (o : Occurrence) → Appends (list_of w) (Some place) more → Roomy w l 1 → Stands t p o
         → Waits t (set (set w place p) 0 (more.order ∷ more.len ∷ 0 ∷ [])) (appended_to l o)
     waits-appended place more p o a room s =
         let many : length (set w place p) ≡ length w = length-set w place p in
@@ -43,6 +44,17 @@ module _ {ticks globals : List ℕ} (t : Notes ticks globals) where
         let two : ((list_of w).len < length w - 1) ⊎ (length w - 1 ≡ 16) = ⊎_elim (λ r. inl (omega arith)) (λ r. inr (omega arith)) one in
         waits_kept (set w place p) more (omega arith) (subst (Placed more) (sym places) (a.placed (length w - 1) h.placed two)) t (appended_to l o)
         (subst (λ ps. Stand t ps (appended_to l o)) (sym (a.waits w p h.placed one)) (stand-appended (waiters_of (list_of w) w) l p o h.stand s))
+
+    -- where there is no place the list is full, and nothing changes
+    pub waits_full : (p : List ℕ) (o : Occurrence) → Appends (list_of w) None (list_of w) → Roomy w l 1 → Stands t p o → Waits t w (appended_to l o)
+    waits_full p o a room s =
+        let n = waits-length t w l h in
+        let one : ((list_of w).len + 1 < length w) ⊎ (length w ≡ 17) = rw n room in
+        record {
+          some = h.some;
+          placed = h.placed;
+          stand = subst (λ ps. Stand t ps (appended_to l o)) (sym (a.waits w p h.placed one)) (stand-appended (waiters_of (list_of w) w) l p o h.stand s);
+        }
 
     pub waits-unmarked : (rest : WaitingList) (gone : List Bool) → Removes (list_of w) gone rest → Waits t (set w 0 (rest.order ∷ rest.len ∷ 0 ∷ [])) (unmarked l gone)
     waits-unmarked rest gone r =

@@ -1,5 +1,5 @@
 -- A waiting list: which of its places wait, in waiting order; and the list as it is kept, in front of its places.
-use Rattle.std.specs.Prelude.{Bool, List, [], map, ◌⊎◌, ◌≡◌, ℕ, ◌+◌, ◌-◌, ◌*◌, ◌/◌, ◌%◌, ◌^◌, ◌≤◌, ◌<◌, eqb, get_or, length, set}
+use Rattle.std.specs.Prelude.{Option, Some, None, IfSome, Bool, List, [], map, ◌⊎◌, ◌≡◌, ℕ, ◌+◌, ◌-◌, ◌*◌, ◌/◌, ◌%◌, ◌^◌, ◌≤◌, ◌<◌, eqb, get_or, length, set}
 use Rattle.sequences.specs.Choice.{pick}
 use Rattle.sequences.specs.Marks.{unmarked}
 use Rattle.sequences.specs.Range.{numbers_from}
@@ -26,12 +26,17 @@ pub record Placed (list : WaitingList) (places : ℕ) : Type 0 where
 
 -- ---- what is asked of an append and of a removal, whatever lies at the places
 
+-- an occurrence lies at a place, if there is one
+abbrev pub put_at : List (List ℕ) → Option ℕ → List ℕ → List (List ℕ)
+put_at w None o = w
+put_at w (Some place) o = set w place o
+
 -- one more waits, at the end, and lies at this place; where there are 16 places a full list stays as it is
-pub record Appends (list : WaitingList) (place : ℕ) (list' : WaitingList) : Type 0 where
+pub record Appends (list : WaitingList) (place : Option ℕ) (list' : WaitingList) : Type 0 where
   pub waits : (w : List (List ℕ)) (o : List ℕ) → Placed list (length w - 1) → (list.len + 1 < length w) ⊎ (length w ≡ 17)
-      → waiters_of list' (set w place o) ≡ appended_to (waiters_of list w) o
+      → waiters_of list' (put_at w place o) ≡ appended_to (waiters_of list w) o
   pub placed : (places : ℕ) → Placed list places → (list.len < places) ⊎ (places ≡ 16) → Placed list' places
-  pub behind : 0 < place
+  pub behind : IfSome place (λ p. 0 < p)
 
 -- those that are marked leave
 pub record Removes (list : WaitingList) (gone : List Bool) (list' : WaitingList) : Type 0 where

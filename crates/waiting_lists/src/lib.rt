@@ -2,7 +2,7 @@
 // slice that is lent (specs/Lists.antt).
 #![tactic(auto)]
 
-ghost use Rattle.std.specs.Prelude.{false, true, List, [], ◌∷◌, ◌≡◌, ℕ, min, ◌+◌, ◌≤◌, ◌<◌, get_or, length, set};
+ghost use Rattle.std.specs.Prelude.{false, true, List, [], ◌∷◌, ◌≡◌, ℕ, min, ◌+◌, ◌≤◌, ◌<◌, get_or, length, set, IsNone};
 ghost use Rattle.sequences.specs.Choice.{pick};
 ghost use Rattle.sequences.specs.Marks.{first_mark, unmarked};
 ghost use Rattle.occurrences.specs.declared.Occurrence.{Occurrence};
@@ -15,24 +15,17 @@ use occurrences::Packed;
 
 // Document 01's waiting list. Four bits of `order` name a place: the lowest four that of the first that waits, and so on for `len` of them. After them come
 // the places that are free: an append takes the first of these, and a removal puts there what it frees.
-#[derive(Clone, Copy)]
+#[derive(Clone, Copy, PartialEq, Eq)]
 pub struct WaitingList {
     pub order: u64,
     pub len: usize,
-}
-
-// What an append leaves, and where in the lent slice the new one goes; past every place where the list is full.
-#[derive(Clone, Copy)]
-pub struct AfterAppend {
-    pub place: usize,
-    pub list: WaitingList,
 }
 
 // How many of 16 wait, where n are said to.
 pub fn count(n: usize) -> usize
     ensures { (result ≡ min n 16) × (result ≤ 16) }
 {
-    if 16 < n { 16 } else { n }
+    n.min(16)
 }
 
 // ---- marks
@@ -57,8 +50,7 @@ pub fn with_mark(marks: u64, i: usize, mark: bool) -> u64
 pub fn first_marked(marks: u64) -> usize
     ensures { result ≡ first_mark (marks_of marks) }
 {
-    let first = u64::trailing_zeros(marks) as usize;
-    if first < 16 { first } else { 16 }
+    (marks.trailing_zeros() as usize).min(16)
 }
 
 // ---- the order
@@ -103,97 +95,44 @@ fn moved(order: u64, i: usize, last: usize) -> u64
 
 // ---- the list
 
-// One more takes the first free place, unless 16 wait already.
-fn appended(list: WaitingList) -> AfterAppend
-    ensures { Appends list result.place result.list }
+// An append to a list that is lent: one more takes the first free place, unless 16 wait already. Where in the lent slice the new one goes.
+pub fn append(list: &mut WaitingList) -> Option<usize>
+    ensures appends { Appends list.old result list.new }
+    ensures full { IsNone result → list.new ≡ list.old }
 {
-    let n = list.len;
-    let order = list.order;
-    if n < 16 {
-        let more = WaitingList {
-            order: order,
-            len: n + 1,
-        };
-        AfterAppend {
-            place: place_in(order, n) as usize + 1,
-            list: more,
-        }
-    } else {
-        AfterAppend {
-            place: 17,
-            list: list,
-        }
+    if list.len >= 16 {
+        return None;
     }
+    let place = place_in(list.order, list.len) as usize + 1;
+    list.len += 1;
+    Some(place)
 }
 
-// Those that are marked leave, and their places are free.
-fn kept(list: WaitingList, gone: u64) -> WaitingList
-    ensures { Removes list (marks_of gone) result }
-{
-    let mut order = list.order;
-    let mut n = count(list.len);
-    let mut i = n;
-    while 0 < i {
-        i = i - 1;
-        if is_marked(gone, i) {
-            n = n - 1;
-            order = moved(order, i, n);
-        }
-    }
-    WaitingList {
-        order: order,
-        len: n,
-    }
-}
-
-// An append to a list that is lent: where the new one goes.
-pub fn append(list: &mut WaitingList) -> usize
-    ensures { Appends list.old result list.new }
-{
-    let a = appended(*list);
-    *list = a.list;
-    a.place
-}
-
-// A removal of those marked from a list that is lent.
+// A removal of those marked from a list that is lent: they leave, and their places are free.
 pub fn remove(list: &mut WaitingList, gone: u64)
     ensures { Removes list.old (marks_of gone) list.new }
 {
-    *list = kept(*list, gone);
-}
-
-// An append to a list by value, which is lent.
-fn with_one_more(list: WaitingList) -> AfterAppend
-    ensures { Appends list result.place result.list }
-{
-    let mut m = list;
-    let place = append(&mut m);
-    AfterAppend {
-        place: place,
-        list: m,
+    let mut order = list.order;
+    let mut len = count(list.len);
+    for i in (0..len).rev() {
+        if is_marked(gone, i) {
+            len -= 1;
+            order = moved(order, i, len);
+        }
     }
-}
-
-// A removal from a list by value, which is lent.
-fn without(list: WaitingList, gone: u64) -> WaitingList
-    ensures { Removes list (marks_of gone) result }
-{
-    let mut m = list;
-    remove(&mut m, gone);
-    m
+    *list = WaitingList { order, len };
 }
 
 // ---- the list in front of its places
 
-// The order that is kept: 0, as at first, for each place at its own number.
+// Each place at its own number.
+const FIRST_ORDER: u64 = 0xfedc_ba98_7654_3210;
+
+// The order that is kept: 0, as at first, for the first order.
 fn order_of(kept: u64) -> u64
     ensures { result ≡ order_of kept }
 {
-    if kept == 0 {
-        18364758544493064720
-    } else {
-        kept
-    }
+    if kept == 0 { FIRST_ORDER } else { kept }
 }
 
 // The list that is kept in front of its places.
@@ -213,8 +152,7 @@ pub fn place_at(list: WaitingList, i: usize) -> usize
     requires { i < 16 }
     ensures { result ≡ place_in list.order i + 1 }
 {
-    let order = list.order;
-    place_in(order, i) as usize + 1
+    place_in(list.order, i) as usize + 1
 }
 
 // The list is kept.
@@ -222,10 +160,7 @@ fn keep(w: &mut [Packed], list: WaitingList)
     requires { 0 < length w.old }
     ensures { w.new ≡ set w.old 0 (list.order ∷ list.len ∷ 0 ∷ []) }
 {
-    let mut head = [0u64; 3];
-    head[0] = list.order;
-    head[1] = list.len as u64;
-    w[0] = head;
+    w[0] = [list.order, list.len as u64, 0];
 }
 
 // An occurrence goes to a place, if there is such a one.
@@ -244,11 +179,11 @@ pub fn append_to(w: &mut [Packed], o: &Packed)
         → Waits t w.old l → Roomy w.old l 1 → Stands t o.now x
         → Waits t w.new (appended_to l x) }
 {
-    let list = list_of(w);
-    let a = with_one_more(list);
-    let more = a.list;
-    put(w, a.place, o);
-    keep(w, more);
+    let mut list = list_of(w);
+    if let Some(place) = append(&mut list) {
+        put(w, place, o);
+        keep(w, list);
+    }
 }
 
 // Those that are not marked wait on, in order.
@@ -260,7 +195,7 @@ pub fn remove_from(w: &mut [Packed], gone: u64)
     if first_marked(gone) == 16 {
         return;
     }
-    let list = list_of(w);
-    let rest = without(list, gone);
+    let mut rest = list_of(w);
+    remove(&mut rest, gone);
     keep(w, rest);
 }

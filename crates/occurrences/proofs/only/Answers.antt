@@ -7,4 +7,4 @@ pub overflow_cast-k : goal.overflow_cast-k
 overflow_cast-k c = omega (arith, few_zeros c.args.w)
 
 pub returns-then-event-lt256 : goal.returns-then-event-lt256
-returns-then-event-lt256 c = (omega arith, omega arith, only_byte c.args.w (omega arith))
+returns-then-event-lt256 c = (omega arith, omega arith, only_byte c.args.w c.if-event-lt256.true)

@@ -11,32 +11,29 @@ nonzero_rem-result c = rw (one_shl (4 * c.args.i) (search rules)) (pow_pos (4 * 
 
 pub overflow_add-result : goal.overflow_add-result
 overflow_add-result c =
-    let a = c.args in
     let (h, p, f) = c.requires in
-    rw (one_shl (4 * a.i) (search rules), place_shl a.order a.i a.place h f p) (record { fits = with_fits_first a.order a.i a.place h f p })
+    rw (one_shl (4 * c.args.i) (search rules), place_shl c.args.order c.args.i c.args.place h f p) (record { fits = with_fits_first c.args.order c.args.i c.args.place h f p })
 
 pub overflow_add-result-2 : goal.overflow_add-result-2
 overflow_add-result-2 c =
-    let a = c.args in
     let (h, p, f) = c.requires in
     rw (
-      one_shl (4 * a.i) (search rules),
-      place_shl a.order a.i a.place h f p,
-      from_shl a.order a.i a.place h f p,
-      with_glued a.order a.i a.place h f p,
-    ) (record { fits = with_fits a.order a.i a.place h f p })
+      one_shl (4 * c.args.i) (search rules),
+      place_shl c.args.order c.args.i c.args.place h f p,
+      from_shl c.args.order c.args.i c.args.place h f p,
+      with_glued c.args.order c.args.i c.args.place h f p,
+    ) (record { fits = with_fits c.args.order c.args.i c.args.place h f p })
 
 pub returns : goal.returns
 returns c =
-    let a = c.args in
     let (h, p, f) = c.requires in
     rw (
-      one_shl (4 * a.i) (search rules),
-      place_shl a.order a.i a.place h f p,
-      from_shl a.order a.i a.place h f p,
-      with_glued a.order a.i a.place h f p,
+      one_shl (4 * c.args.i) (search rules),
+      place_shl c.args.order c.args.i c.args.place h f p,
+      from_shl c.args.order c.args.i c.args.place h f p,
+      with_glued c.args.order c.args.i c.args.place h f p,
     ) (
-      glued_low a.order a.i (from a.order a.i a.place h f p * 16 + a.place),
-      with_there a.order a.i a.place h f p,
-      (λ j k l. with_later a.order a.i a.place h f p j k),
+      glued_low c.args.order c.args.i (from c.args.order c.args.i c.args.place h f p * 16 + c.args.place),
+      with_there c.args.order c.args.i c.args.place h f p,
+      (λ j k l. with_later c.args.order c.args.i c.args.place h f p j k),
     )

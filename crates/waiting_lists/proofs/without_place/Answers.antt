@@ -12,19 +12,17 @@ nonzero_rem-result c = rw (one_shl (4 * c.args.i) (search rules)) (pow_pos (4 * 
 
 pub overflow_add-result : goal.overflow_add-result
 overflow_add-result c =
-    let a = c.args in
     let f = c.ranges.order.fits in
     let h = c.requires in
-    let w = without_fits a.order a.i h f in
-    rw (one_shl (4 * a.i) (search rules), after_shl a.order a.i h f) (record { fits = omega (arith, w) })
+    let w = without_fits c.args.order c.args.i h f in
+    rw (one_shl (4 * c.args.i) (search rules), after_shl c.args.order c.args.i h f) (record { fits = omega (arith, w) })
 
 pub returns : goal.returns
 returns c =
-    let a = c.args in
     let f = c.ranges.order.fits in
     let h = c.requires in
-    rw (one_shl (4 * a.i) (search rules), after_shl a.order a.i h f) (
-      glued_low a.order a.i (after a.order a.i h),
-      (λ j k l. without_later a.order a.i h j k),
-      without_fits a.order a.i h f,
+    rw (one_shl (4 * c.args.i) (search rules), after_shl c.args.order c.args.i h f) (
+      glued_low c.args.order c.args.i (after c.args.order c.args.i h),
+      (λ j k l. without_later c.args.order c.args.i h j k),
+      without_fits c.args.order c.args.i h f,
     )
