@@ -6,7 +6,7 @@ use Rattle.detections.proofs.fits.Goals as goal
 
 pub returns-then-left-ge-MOST : goal.returns-then-left-ge-MOST
 returns-then-left-ge-MOST c =
-    λ loggers node. le-leb 342 c.args.left c.if-left-ge-MOST.true
+    λ loggers node. le-leb _ c.args.left c.if-left-ge-MOST.true
     ∙ sym (le-leb _ c.args.left (omega (arith, finding-most loggers node (occurrence_of c.args.ticks.now c.args.o.now), c.if-left-ge-MOST.true)))
 
 pub returns-else-left-ge-MOST : goal.returns-else-left-ge-MOST
