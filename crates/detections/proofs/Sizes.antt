@@ -1,5 +1,5 @@
 -- A finding's bytes: their parts and how many they are.
-use mathlib.Core.Path.{◌≡◌, refl, sym, ap, ◌∙◌}
+use mathlib.Core.Path.{◌≡◌, refl, sym, ap, ap₂, ◌∙◌}
 use mathlib.Core.List.{List, [], ◌∷◌, ◌++◌, append_assoc, append-nil}
 use Prim.Native.Nat.{ℕ, zero, suc, ◌+◌, ◌*◌, ◌-◌, ◌/◌, ◌%◌, ◌^◌, ◌≤◌, ◌<◌}
 use native.Mathlib.Nat.{div-one}
@@ -14,7 +14,7 @@ use Rattle.forms.proofs.Prefixes.{length-section}
 use Rattle.detections.specs.Findings.{Finding, to_stamp, from_stamp, stamp, finding_bytes, findings_bytes}
 use Rattle.detections.specs.Steps.{stamp_bytes}
 use Rattle.detections.specs.Writing.{Wrote, Beyond}
-use Rattle.detections.proofs.Writing.{beyond_wrote, stored, wrote_stored}
+use Rattle.detections.proofs.Writing.{beyond_wrote}
 
 pub stamp_laws : Laws stamp
 stamp_laws = via_laws to_stamp from_stamp (pair (number 2) (number 8)) (pair_laws (number 2) (number 8) (number_laws 2) (number_laws 8)) (λ a. refl) (λ s. refl)
@@ -28,16 +28,14 @@ abbrev pub bytes_down : ℕ → ℕ → List ℕ
 bytes_down zero v = v % 256 ∷ []
 bytes_down (suc w) v = v / 256 ^ suc w % 256 ∷ bytes_down w v
 
-bytes_down_lem : (w v : ℕ) → bytes_down w v ≡ big_endian (suc w) v
+pub bytes_down_lem : (w v : ℕ) → bytes_down w v ≡ big_endian (suc w) v
 unfolding big_endian
 bytes_down_lem zero v = rw div-one
 bytes_down_lem (suc w) v = ap (λ l. v / 256 ^ suc w % 256 ∷ l) (bytes_down_lem w v)
 
--- one store for each byte
-pub wrote_number : (w : ℕ) (l : List ℕ) (at v : ℕ) → at + suc w ≤ length l → Wrote l at (big_endian (suc w) v) (at + suc w) (stored l at (bytes_down w v))
-wrote_number w l at v h =
-    let n : length (bytes_down w v) ≡ suc w = ap length (bytes_down_lem w v) ∙ length-big_endian (suc w) v in
-    rw (← bytes_down_lem w v, ← n) (wrote_stored l at (bytes_down w v) (rw n h))
+-- of a number that needs more than two its lowest two
+pub lowest_two : (v : ℕ) → bytes_down 1 (v % 65536) ≡ big_endian 2 v
+lowest_two v = ap₂ (λ a b. a ∷ b ∷ []) (omega arith) (omega arith) ∙ bytes_down_lem 1 v
 
 -- ---- a stamp, if there is one
 module _ (logger w : ℕ) where

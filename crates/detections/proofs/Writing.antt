@@ -1,12 +1,12 @@
 -- Laws of `Wrote` and `Beyond`.
 use mathlib.Core.Path.{◌≡◌, refl, sym, ap, ◌∙◌}
-use mathlib.Core.List.{List, [], ◌∷◌, ◌++◌, append_assoc, append-nil}
-use Prim.Native.Nat.{ℕ, suc, ◌+◌, ◌-◌, ◌≤◌}
-use native.Mathlib.Numerals.{add-one}
-use native.Mathlib.Nat.{add_assoc, add-suc, add-zero}
+use mathlib.Core.List.{List, [], ◌++◌, append_assoc, append-nil}
+use Prim.Native.Nat.{ℕ, ◌+◌, ◌-◌, ◌≤◌}
+use native.Mathlib.Nat.{add_assoc, add-zero}
 use native.Mathlib.Omega.{arith}
-use lib.ListN.{length, take, drop, set, length-append, length-take, length-drop, take-append-drop}
-use lib.Seq.{sets, sets-eq, take-append-le, take_at, drop_at, length-take-le, drop-drop}
+use lib.ListN.{length, take, drop, length-append, length-take, length-drop, take-append-drop}
+use lib.Seq.{take-append-le, take_at, drop_at, length-take-le, drop-drop}
+use borrow.Rule.Slice.PartMut.{put_mid}
 use Rattle.detections.specs.Writing.{put, Wrote, Beyond}
 
 -- ---- putting
@@ -40,23 +40,10 @@ length-put l at bs h =
 pub wrote_none : (l : List ℕ) (at : ℕ) → Wrote l at [] at l
 wrote_none l at = record { next = sym (add-zero at); now = sym (put-none l at) }
 
--- byte after byte, one store each, as the code counts their places: at, at + 1, at + 2 ..
-abbrev stored_from : List ℕ → ℕ → ℕ → List ℕ → List ℕ
-stored_from l at k [] = l
-stored_from l at k (b ∷ bs) = stored_from (set l (at + k) b) at (suc k) bs
-
-abbrev pub stored : List ℕ → ℕ → List ℕ → List ℕ
-stored l at [] = l
-stored l at (b ∷ bs) = stored_from (set l at b) at 1 bs
-
-stored_sets : (l : List ℕ) (at k : ℕ) (bs : List ℕ) → stored_from l at k bs ≡ sets l (at + k) bs
-stored_sets l at k [] = refl
-stored_sets l at k (b ∷ bs) = stored_sets (set l (at + k) b) at (suc k) bs ∙ ap (λ n. sets (set l (at + k) b) n bs) (add-suc at k)
-
-pub wrote_stored : (l : List ℕ) (at : ℕ) (bs : List ℕ) → at + length bs ≤ length l → Wrote l at bs (at + length bs) (stored l at bs)
+-- the bytes bs in place of as many
+pub wrote_part : {l bs cs : List ℕ} {at n : ℕ} → at + length bs ≤ length l → n ≡ length bs → cs ≡ bs → Wrote l at bs (at + length bs) (put_mid at n l cs)
 unfolding put
-wrote_stored l at [] h = record { next = refl; now = sym (put-none l at) }
-wrote_stored l at (b ∷ bs) h = record { next = refl; now = stored_sets (set l at b) at 1 bs ∙ ap (λ n. sets (set l at b) n bs) (add-one at) ∙ sets-eq (b ∷ bs) l at h }
+wrote_part {l} {bs} {cs} {at} {n} h e same = record { next = refl; now = rw (same, e, drop-drop (length bs) at l) (sym (append_assoc (take at l) bs (drop (at + length bs) l))) }
 
 -- one piece, and then another
 pub wrote_then : {l l₁ l₂ bs cs : List ℕ} {at r₁ r₂ : ℕ} → at ≤ length l → Wrote l at bs r₁ l₁ → Wrote l₁ r₁ cs r₂ l₂ → Wrote l at (bs ++ cs) r₂ l₂

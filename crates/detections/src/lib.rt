@@ -27,12 +27,22 @@ pub struct Stamp {
     pub tick: LocalTick,
 }
 
+// ---- sizes in bytes
+// A stamp: two for its logger's number, eight for its tick.
+const STAMP: usize = 10;
+// The number of an event.
+const EVENT: usize = 2;
+// A finding with neither: its node, and both counts.
+const LEAST: usize = 6;
+// The largest finding: eight stamps, 128 events.
+const MOST: usize = LEAST + 8 * STAMP + 128 * EVENT;
+
 // ---- counts
 
 fn one_if(w: u64) -> usize
     ensures { (result ≡ one_if w) × (result ≤ 1) }
 {
-    if 0 < w { 1 } else { 0 }
+    usize::from(0 < w)
 }
 
 // How many timestamps an occurrence has.
@@ -40,11 +50,9 @@ pub fn timestamp_count(o: &Packed, ticks: &[u64]) -> usize
     requires { Inside 8 ticks.now (get_or o.now 2 0) }
     ensures { (result ≡ length (members (occurrence_of ticks.now o.now).latest)) × (result ≤ 8) }
 {
-    let mut n: usize = 0;
-    let mut k: usize = 0;
-    while k < 8 {
-        n = n + one_if(occurrences::word_at(o, ticks, k));
-        k = k + 1;
+    let mut n = 0;
+    for k in 0..8 {
+        n += one_if(occurrences::word_at(o, ticks, k));
     }
     n
 }
@@ -61,48 +69,45 @@ pub fn size(timestamps: usize, events: usize) -> usize
     requires { (timestamps ≤ 8) × (events ≤ 128) }
     ensures { (f : Finding) → length f.stamps ≡ timestamps → length f.events ≡ events → result ≡ length (finding_bytes f) }
 {
-    6 + 10 * timestamps + 2 * events
+    LEAST + STAMP * timestamps + EVENT * events
 }
 
-// Whether the finding of an occurrence fits in so many bytes. The largest, with eight timestamps and 128 events, takes 342.
+// Whether the finding of an occurrence fits in so many bytes.
 pub fn fits(o: &Packed, ticks: &[u64], left: usize) -> bool
     requires { Inside 8 ticks.now (get_or o.now 2 0) }
     ensures { (loggers : List ℕ) (node : ℕ)
         → result ≡ leb (length (written_bytes ticks.now loggers node o.now)) left }
 {
-    if 342 <= left {
-        return true;
-    }
-    let timestamps = timestamp_count(o, ticks);
-    let events = event_count(o);
-    size(timestamps, events) <= left
+    MOST <= left || size(timestamp_count(o, ticks), event_count(o)) <= left
 }
 
 // ---- writing
+
+// Each function here writes from the place `at` on and answers the place after: that is what the contracts of a finding's parts speak of (`Wrote`), and a slice
+// of the rest would have to be lent anew for each part.
+
+fn put_bytes(out: &mut [u8], at: usize, bytes: &[u8]) -> usize
+    requires { at + length bytes.now ≤ length out.old }
+    ensures { Wrote out.old at bytes.now result out.new }
+{
+    let to = at + bytes.len();
+    out[at..to].copy_from_slice(bytes);
+    to
+}
 
 // The lowest two bytes of v.
 fn put_u16(out: &mut [u8], at: usize, v: u64) -> usize
     requires { at + 2 ≤ length out.old }
     ensures { Wrote out.old at (big_endian 2 v) result out.new }
 {
-    out[at] = ((v >> 8) % 256) as u8;
-    out[at + 1] = (v % 256) as u8;
-    at + 2
+    put_bytes(out, at, &((v % 65536) as u16).to_be_bytes())
 }
 
 fn put_u64(out: &mut [u8], at: usize, v: u64) -> usize
     requires { at + 8 ≤ length out.old }
     ensures { Wrote out.old at (big_endian 8 v) result out.new }
 {
-    out[at] = ((v >> 56) % 256) as u8;
-    out[at + 1] = ((v >> 48) % 256) as u8;
-    out[at + 2] = ((v >> 40) % 256) as u8;
-    out[at + 3] = ((v >> 32) % 256) as u8;
-    out[at + 4] = ((v >> 24) % 256) as u8;
-    out[at + 5] = ((v >> 16) % 256) as u8;
-    out[at + 6] = ((v >> 8) % 256) as u8;
-    out[at + 7] = (v % 256) as u8;
-    at + 8
+    put_bytes(out, at, &v.to_be_bytes())
 }
 
 // The stamp of an event, where the table has its tick. The tick is read when the logger is written: then each is one store.
@@ -132,12 +137,13 @@ fn put_named(
 {
     let mut to = at;
     let mut rest = packed;
+    // A loop over the bytes that are set: an iterator of them would be this loop, with a type and a proof of its own.
     while 0 < rest {
-        let k = (u64::trailing_zeros(rest) / 8) as usize;
+        let k = (rest.trailing_zeros() / 8) as usize;
         let event = (rest >> (8 * k)) % 256;
         to = put_stamp(out, to, loggers[k], event as usize, ticks);
         // Without that byte.
-        rest = rest - (event << (8 * k));
+        rest -= event << (8 * k);
     }
     to
 }
@@ -173,7 +179,7 @@ fn put_stamp_section(
 {
     let from = at + 2;
     let to = put_stamps(out, from, o, ticks, loggers);
-    put_u16(out, at, ((to - from) / 10) as u64);
+    put_u16(out, at, ((to - from) / STAMP) as u64);
     to
 }
 
@@ -184,10 +190,11 @@ fn put_bits(out: &mut [u8], at: usize, word: u64, first: u64) -> usize
 {
     let mut to = at;
     let mut rest = word;
+    // Likewise over the bits.
     while 0 < rest {
-        to = put_u16(out, to, first + u64::trailing_zeros(rest) as u64);
+        to = put_u16(out, to, first + rest.trailing_zeros() as u64);
         // Without its lowest bit.
-        rest = rest & (rest - 1);
+        rest &= rest - 1;
     }
     to
 }
@@ -208,7 +215,7 @@ fn put_event_section(out: &mut [u8], at: usize, s: EventSet) -> usize
 {
     let from = at + 2;
     let to = put_events(out, from, s);
-    put_u16(out, at, ((to - from) / 2) as u64);
+    put_u16(out, at, ((to - from) / EVENT) as u64);
     to
 }
 
@@ -225,8 +232,7 @@ pub fn write(
         × (at + length (written_bytes ticks.now loggers.now node o.now) ≤ length out.old) }
     ensures { Wrote out.old at (written_bytes ticks.now loggers.now node o.now) result out.new }
 {
-    let numbers = occurrences::events_of(o);
     let a = put_u16(out, at, node);
     let b = put_stamp_section(out, a, o, ticks, loggers);
-    put_event_section(out, b, numbers)
+    put_event_section(out, b, occurrences::events_of(o))
 }

@@ -1,23 +1,16 @@
 -- Any finding fits where the largest does; else its counts make its size.
-use mathlib.Core.Path.{sym, ap}
-use native.Mathlib.Omega.{arith}
-use lib.Dec.{leb}
-use borrow.Author.Tests.{le-leb}
+use Rattle.std.proofs.Common.{sym, ap, ◌∙◌, leb, le-leb, arith}
 use Rattle.occurrences.specs.Packed.{occurrence_of}
 use Rattle.detections.proofs.Findings.{finding-most, finding-size}
 use Rattle.detections.proofs.fits.Goals as goal
 
-pub returns-then-left-ge342 : goal.returns-then-left-ge342
-returns-then-left-ge342 c =
-    let a = c.args in
-    λ loggers node. sym (le-leb _ a.left (omega (arith, finding-most loggers node (occurrence_of a.ticks.now a.o.now), c.if-left-ge342.true)))
+pub returns-then-left-ge-MOST : goal.returns-then-left-ge-MOST
+returns-then-left-ge-MOST c =
+    λ loggers node. le-leb _ c.args.left c.if-left-ge-MOST.true
+    ∙ sym (le-leb _ c.args.left (omega (arith, finding-most loggers node (occurrence_of c.args.ticks.now c.args.o.now), c.if-left-ge-MOST.true)))
 
-pub timestamp_count-timestamps-requires : goal.timestamp_count-timestamps-requires
-timestamp_count-timestamps-requires c = c.requires
-
-pub returns : goal.returns
-returns c =
-    let a = c.args in
+pub returns-else-left-ge-MOST : goal.returns-else-left-ge-MOST
+returns-else-left-ge-MOST c =
     λ loggers node.
-    ap (λ n. leb n a.left)
-    (finding-size loggers node (occurrence_of a.ticks.now a.o.now) c.timestamp_count-timestamps.ensures.0 (c.event_count-events.ensures.0 a.ticks.now) c.size.ensures)
+    ap (λ n. leb n c.args.left)
+    (finding-size loggers node (occurrence_of c.args.ticks.now c.args.o.now) c.timestamp_count.ensures.0 (c.event_count.ensures.0 c.args.ticks.now) c.size.ensures)

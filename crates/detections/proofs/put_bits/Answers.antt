@@ -13,8 +13,7 @@ pub overflow_cast-rest : goal.overflow_cast-rest
 overflow_cast-rest c = omega (arith, trailing_le 64 c.loop-rest.rest)
 
 pub overflow_add-first : goal.overflow_add-first
-overflow_add-first c =
-    omega (arith, trailing_le 64 c.loop-rest.rest, c.requires.0)
+overflow_add-first c = omega (arith, trailing_le 64 c.loop-rest.rest, c.requires.0)
 
 pub put_u16-to-requires : goal.put_u16-to-requires
 put_u16-to-requires c =
@@ -23,8 +22,7 @@ put_u16-to-requires c =
     omega (arith, length_two (first + count_trailing_zeros 64 rest), writes_room c.loop-rest.invariant.1 (big_endian 2 (first + count_trailing_zeros 64 rest)) _ (bits_turn first rest c.loop-rest-test.true c.loop-rest.invariant.0))
 
 pub loop-rest-smaller : goal.loop-rest-smaller
-loop-rest-smaller c =
-    rest_less c.loop-rest.rest c.loop-rest-test.true
+loop-rest-smaller c = rest_less c.loop-rest.rest c.loop-rest-test.true
 
 pub loop-rest-preserved : goal.loop-rest-preserved
 loop-rest-preserved c =
@@ -33,5 +31,4 @@ loop-rest-preserved c =
     (omega (arith, rest_less rest c.loop-rest-test.true, c.loop-rest.invariant.0), writes_turn c.loop-rest.invariant.1 (bits_turn first rest c.loop-rest-test.true c.loop-rest.invariant.0) c.put_u16-to.ensures)
 
 pub returns : goal.returns
-returns c =
-    writes_end c.loop-rest.invariant.1 (bits_end c.args.first c.loop-rest.rest c.loop-rest-test.false)
+returns c = writes_end c.loop-rest.invariant.1 (bits_end c.args.first c.loop-rest.rest c.loop-rest-test.false)

@@ -62,5 +62,4 @@ loop-rest-preserved c =
     )
 
 pub returns : goal.returns
-returns c =
-    writes_end c.loop-rest.invariant.2 (named_end c.args.ticks.now c.args.loggers.now c.requires.1 c.loop-rest.rest c.loop-rest-test.false)
+returns c = writes_end c.loop-rest.invariant.2 (named_end c.args.ticks.now c.args.loggers.now c.requires.1 c.loop-rest.rest c.loop-rest-test.false)

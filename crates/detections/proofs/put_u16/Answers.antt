@@ -1,11 +1,8 @@
--- `detections::put_u16`: two stores.
-use native.Mathlib.Omega.{arith}
-use lib.ListN.{length-set}
-use Rattle.detections.proofs.Sizes.{wrote_number}
+-- The bytes of its lowest two.
+use Rattle.std.proofs.Common.{subst, ◌∙◌}
+use Rattle.detections.specs.Writing.{Wrote}
+use Rattle.detections.proofs.Sizes.{lowest_two}
 use Rattle.detections.proofs.put_u16.Goals as goal
 
-pub bounds-out-at-2 : goal.bounds-out-at-2
-bounds-out-at-2 c = simp length-set (omega arith)
-
 pub returns : goal.returns
-returns c = wrote_number 1 _ _ _ c.requires
+returns c = subst (λ bs. Wrote c.args.out.now c.args.at bs c.put_bytes.result c.put_bytes.new.out) (c.to_be_bytes.ensures ∙ lowest_two c.args.v) c.put_bytes.ensures

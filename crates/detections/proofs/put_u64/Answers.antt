@@ -1,32 +1,8 @@
--- `detections::put_u64`: eight stores.
-use native.Mathlib.Omega.{arith}
-use lib.ListN.{length-set}
-use Rattle.detections.proofs.Sizes.{wrote_number}
+-- The bytes from the highest on.
+use Rattle.std.proofs.Common.{subst, ◌∙◌}
+use Rattle.detections.specs.Writing.{Wrote}
+use Rattle.detections.proofs.Sizes.{bytes_down_lem}
 use Rattle.detections.proofs.put_u64.Goals as goal
 
-pub bounds-out-at-2 : goal.bounds-out-at-2
-bounds-out-at-2 c = simp length-set (omega arith)
-
-pub bounds-out-at-3 : goal.bounds-out-at-3
-bounds-out-at-3 c = simp length-set (omega arith)
-
-pub bounds-out-at-4 : goal.bounds-out-at-4
-bounds-out-at-4 c = simp length-set (omega arith)
-
-pub bounds-out-at-5 : goal.bounds-out-at-5
-bounds-out-at-5 c = simp length-set (omega arith)
-
-pub bounds-out-at-6 : goal.bounds-out-at-6
-bounds-out-at-6 c = simp length-set (omega arith)
-
-pub bounds-out-at-7 : goal.bounds-out-at-7
-bounds-out-at-7 c = simp length-set (omega arith)
-
-pub bounds-out-at-8 : goal.bounds-out-at-8
-bounds-out-at-8 c = simp length-set (omega arith)
-
-pub shape_of-out : goal.shape_of-out
-shape_of-out c = simp length-set
-
 pub returns : goal.returns
-returns c = wrote_number 7 _ _ _ c.requires
+returns c = subst (λ bs. Wrote c.args.out.now c.args.at bs c.put_bytes.result c.put_bytes.new.out) (c.to_be_bytes.ensures ∙ bytes_down_lem 7 c.args.v) c.put_bytes.ensures

@@ -1,7 +1,5 @@
 -- The count so far and what is left from place k on make the whole.
-use mathlib.Core.Path.{◌≡◌}
-use Prim.Native.Nat.{◌+◌, ◌-◌, ◌≤◌}
-use lib.ListN.{length}
+use Rattle.std.proofs.Common.{◌≡◌, ◌+◌, ◌≤◌, length}
 use Rattle.timestamps.specs.Composite.{members}
 use Rattle.occurrences.specs.Packed.{words_of}
 use Rattle.occurrences.proofs.Words.{latest_of}
@@ -9,7 +7,4 @@ use Rattle.detections.proofs.Stamps.{count_from}
 use Rattle.detections.proofs.timestamp_count.Given as goal
 
 abbrev pub invariant-loop-k : goal.invariant-loop-k
-invariant-loop-k l = (l.k ≤ 8) × (l.n ≤ l.k) × (l.n + count_from (words_of l.ticks l.o) l.k ≡ length (members (latest_of (words_of l.ticks l.o))))
-
-abbrev pub decreases-loop-k : goal.decreases-loop-k
-decreases-loop-k l = 8 - l.k
+invariant-loop-k l = (l.n ≤ l.k) × (l.n + count_from (words_of l.ticks l.o) l.k ≡ length (members (latest_of (words_of l.ticks l.o))))
