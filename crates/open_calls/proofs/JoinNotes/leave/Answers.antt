@@ -1,7 +1,7 @@
 -- By the two cases.
 use Rattle.open_calls.specs.Notes.{left_by}
 use mathlib.Core.Path.{sym, ◌∙◌}
-use Rattle.open_calls.proofs.leave.Goals as goal
+use Rattle.open_calls.proofs.JoinNotes.leave.Goals as goal
 
 pub returns-then-is_clear : goal.returns-then-is_clear
 unfolding left_by

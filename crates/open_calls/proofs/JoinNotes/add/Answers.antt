@@ -1,19 +1,18 @@
 -- By the three cases.
-use mathlib.Core.Path.{sym, ◌∙◌}
-use native.Mathlib.Omega.{arith}
+use Rattle.std.proofs.Common.{sym, ◌∙◌, arith}
 use Rattle.timestamps.specs.Order.{clocks_of}
 use Rattle.timestamps.proofs.Groupings.{valid-place}
 use Rattle.open_calls.proofs.Adding.{clear_told, late_told, put_told}
-use Rattle.open_calls.proofs.add.Goals as goal
+use Rattle.open_calls.proofs.JoinNotes.add.Goals as goal
 
-pub bounds-join-k : goal.bounds-join-k
-bounds-join-k c = omega (arith, valid-place _ c.requires)
+pub bounds-self-k : goal.bounds-self-k
+bounds-self-k c = omega (arith, valid-place _ c.requires)
 
-pub bounds-join-k-then-not-is_clear : goal.bounds-join-k-then-not-is_clear
-bounds-join-k-then-not-is_clear c = omega (arith, valid-place _ c.requires)
+pub bounds-self-k-then-not-is_clear : goal.bounds-self-k-then-not-is_clear
+bounds-self-k-then-not-is_clear c = omega (arith, valid-place _ c.requires)
 
-pub bounds-join-k-then-not-is_clear-2 : goal.bounds-join-k-then-not-is_clear-2
-bounds-join-k-then-not-is_clear-2 c = omega (arith, valid-place _ c.requires)
+pub bounds-self-k-then-not-is_clear-2 : goal.bounds-self-k-then-not-is_clear-2
+bounds-self-k-then-not-is_clear-2 c = omega (arith, valid-place _ c.requires)
 
 pub returns-then-not-is_clear : goal.returns-then-not-is_clear
 returns-then-not-is_clear c = record { joined = λ l v n. put_told (clocks_of c.args.ratio) l v _ c.requires _ n _ _ c.note_of-note.ensures c.global_note-global.ensures (sym c.is_earlier.ensures ∙ c.if-is_earlier.true) (sym c.is_clear.ensures ∙ c.if-not-is_clear.true) _ c.make_room.ensures }
