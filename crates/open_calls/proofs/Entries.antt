@@ -18,9 +18,9 @@ use Rattle.open_calls.specs.declared.JoinAnswer.{JoinAnswer}
 use Rattle.open_calls.specs.declared.JoinNotes.{JoinNotes}
 use Rattle.open_calls.specs.declared.Refusal.TheVariants.{BadEntry}
 use Rattle.open_calls.specs.declared.Refused.{Refused}
-use Rattle.open_calls.specs.Answers.{first_invalid, join_answer, refused_join, shown, valid_length}
+use Rattle.open_calls.specs.Answers.{Judgement, first_invalid, join_answer, refused_join, shown, valid_length}
 use Rattle.open_calls.specs.Notes.{Joined, no_notes, note_at, shown_from}
-use Rattle.open_calls.specs.Steps.{Judgement, call_judged, entries_judged, list_judged}
+use Rattle.open_calls.specs.Steps.{call_judged, entries_judged, list_judged}
 use Rattle.open_calls.proofs.Notes.{noted_by, shown-is}
 
 -- ---- nothing yet

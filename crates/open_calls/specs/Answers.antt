@@ -1,5 +1,5 @@
 -- Document 01: the answer of the join call, and where 34 to 36 turn it back; the numbers that both open calls share.
-use Rattle.std.specs.Prelude.{Bool, not, ◌&&◌, List, [], ◌∷◌, map, ℕ, suc, leb, length, replicate}
+use Rattle.std.specs.Prelude.{Bool, not, ◌&&◌, List, [], ◌∷◌, map, ℕ, suc, leb, length, replicate, Result}
 use Rattle.sequences.specs.Choice.{pick}
 use Rattle.sequences.specs.Select.{each_passes}
 use Rattle.timestamps.specs.declared.Timestamp.{Timestamp}
@@ -9,6 +9,7 @@ use Rattle.timestamps.specs.Join.{join_of}
 use Rattle.timestamps.specs.Order.{blank, clocks_of, valid, valid_ratio}
 use Rattle.open_calls.specs.declared.Refusal.{Refusal}
 use Rattle.open_calls.specs.declared.Refusal.TheVariants.{BadRatio, BadLength, BadEntry, NotConcurrent}
+use Rattle.open_calls.specs.declared.Refused.{Refused}
 use Rattle.open_calls.specs.declared.JoinAnswer.{JoinAnswer}
 
 -- document 01's number of each refusal
@@ -17,6 +18,10 @@ number_of BadRatio = 34
 number_of BadLength = 35
 number_of BadEntry = 36
 number_of NotConcurrent = 37
+
+-- whether a call goes on, or is turned back, and at which place
+abbrev pub Judgement : Type 0
+Judgement = Result (Unit {0}) Refused
 
 -- 35 lets a list of 1 to 128 pass
 unfoldable pub valid_length : ℕ → Bool

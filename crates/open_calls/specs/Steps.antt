@@ -6,11 +6,7 @@ use Rattle.timestamps.specs.declared.Timestamp.{Timestamp}
 use Rattle.timestamps.specs.Order.{valid, valid_ratio}
 use Rattle.open_calls.specs.declared.Refusal.TheVariants.{BadRatio, BadLength, BadEntry}
 use Rattle.open_calls.specs.declared.Refused.{Refused}
-use Rattle.open_calls.specs.Answers.{first_invalid, valid_length}
-
--- whether a call goes on
-abbrev pub Judgement : Type 0
-Judgement = Result (Unit {0}) Refused
+use Rattle.open_calls.specs.Answers.{Judgement, first_invalid, valid_length}
 
 -- the ratio, then the length of the (first) list
 unfoldable pub call_judged : ℕ → ℕ → Judgement
@@ -23,7 +19,7 @@ unfoldable pub entries_judged : List Timestamp → Judgement
 entries_judged l = pick (each_passes valid l) (Ok tt) (Err (record { why = BadEntry; place = first_invalid l }))
 
 -- where the first goes on, the next
-abbrev pub and_then : Judgement → Judgement → Judgement
+abbrev pub and_then : {A : Type 0} → Judgement → Result A Refused → Result A Refused
 and_then (Err refused) next = Err refused
 and_then (Ok _) next = next
 
