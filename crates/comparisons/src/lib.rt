@@ -72,7 +72,7 @@ struct Gathering {
 impl Gathering {
     const NOTHING: Gathering = Gathering {
         span: Span {
-            lowest: GlobalTick(18446744073709551615),
+            lowest: GlobalTick(u64::MAX),
             highest: GlobalTick(0),
         },
         notes: [0; 8],

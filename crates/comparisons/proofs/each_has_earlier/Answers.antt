@@ -7,10 +7,10 @@ pub loop-k-init : goal.loop-k-init
 loop-k-init c = earlier_start _ _ _
 
 pub returns-then-not-has_earlier : goal.returns-then-not-has_earlier
-returns-then-not-has_earlier c = earlier_turn _ _ _ _ false c.loop-k-test.true (sym c.if-not-has_earlier.true ∙ c.has_earlier.ensures) ∙ c.loop-k.invariant
+returns-then-not-has_earlier c = earlier_turn c.args.ratio c.args.first.now c.args.second.now c.loop-k.k false c.loop-k-test.true (sym c.if-not-has_earlier.true ∙ c.has_earlier.ensures) ∙ c.loop-k.invariant
 
 pub loop-k-preserved : goal.loop-k-preserved
-loop-k-preserved c = earlier_turn _ _ _ _ true c.loop-k-test.true (sym c.if-not-has_earlier.false ∙ c.has_earlier.ensures) ∙ c.loop-k.invariant
+loop-k-preserved c = earlier_turn c.args.ratio c.args.first.now c.args.second.now c.loop-k.k true c.loop-k-test.true (sym c.if-not-has_earlier.false ∙ c.has_earlier.ensures) ∙ c.loop-k.invariant
 
 pub returns : goal.returns
 returns c = earlier_end _ _ _ _ c.loop-k-test.false ∙ c.loop-k.invariant
