@@ -1,5 +1,5 @@
 pub mod Comparisons
-pub mod Folds
+pub mod Entries
 pub mod Notes
 pub mod Relations
 pub mod Theorems

@@ -1,5 +1,5 @@
 -- What the gathering of a list says of its timestamps.
-use Rattle.std.proofs.Common.{◌≡◌, ℕ, ◌+◌, ◌-◌, ◌<◌, ◌≤◌, min, max, Bool, true, false, not, ◌&&◌, ◌||◌, ltb, List, [], ◌∷◌, ◌++◌, length, set, sym, refl, ap, ◌∙◌, subst, ⊎_elim, arith, lit<, length-set, get_or-set_other, get_or-set_same, ltb-true, le-ltb, lt-ltb}
+use Rattle.std.proofs.Common.{◌≡◌, ℕ, ◌+◌, ◌-◌, ◌<◌, ◌≤◌, min, max, Bool, true, false, not, ◌&&◌, ◌||◌, ltb, List, [], ◌∷◌, ◌++◌, set, sym, refl, ap, ◌∙◌, subst, ⊎_elim, arith, lit<, length-set, get_or-set_other, get_or-set_same, ltb-true, le-ltb, lt-ltb}
 use mathlib.Core.List.Memᴰ
 use native.Mathlib.Decide.{ℕ_discrete, dec_lt}
 use lib.ListN.{get_or-replicate}
@@ -14,7 +14,7 @@ use Rattle.timestamps.proofs.Groupings.{valid-place, valid-tick}
 use Rattle.timestamps.proofs.Stamps.{before_one, before-two, clear_before, global-small}
 use Rattle.open_calls.specs.Notes.{local_note, note_at}
 use Rattle.comparisons.specs.declared.Gathering.{Gathering}
-use Rattle.comparisons.specs.Notes.{NotedList, NotedIn, gathering_of, no_lowest, no_notes, noted_at, noted_down, span_of, widened_by}
+use Rattle.comparisons.specs.Notes.{NotedList, NotedIn, global_at, global_zero, no_lowest, noted_at, nothing_gathered, widened_by}
 
 pub global-fits : (clocks : Clocks) (s : Timestamp) → valid s ≡ true → (global_of clocks s).0 < no_lowest
 global-fits clocks s v =
@@ -25,19 +25,19 @@ global-fits clocks s v =
 
 -- ---- a list and its gathering
 module _ (clocks : Clocks) where
-  pub noted_none : NotedList clocks [] (gathering_of (span_of no_lowest 0) no_notes)
+  pub noted_none : NotedList clocks [] nothing_gathered
   noted_none = record {
-    sized = refl;
+    sized = (refl, refl);
     each = λ s m. absurd (Memᴰ.not-nil m);
-    held = λ k l h. absurd (let e : note_at no_notes k ≡ 0 = none-at k l in omega arith);
+    held = λ k l h. absurd (let e : note_at nothing_gathered.notes k ≡ 0 = none-at k l in omega arith);
     lowest = λ h. absurd (omega (arith, h));
     highest = λ h. absurd (omega (arith, h));
     near = omega arith;
     fits = lit< tt;
   }
     where
-      none-at : (k : ℕ) → k < 8 → note_at no_notes k ≡ 0
-      none-at k l = get_or-replicate 16 k 0 0 (omega arith)
+      none-at : (k : ℕ) → k < 8 → note_at nothing_gathered.notes k ≡ 0
+      none-at k l = get_or-replicate 8 k 0 0 (omega arith)
 
   module _ (l : List Timestamp) (a : Gathering) (n : NotedList clocks l a) where
     -- no two are clearly apart
@@ -154,40 +154,26 @@ module _ (clocks : Clocks) where
         abbrev k : ℕ
         k = s.logger
 
-        abbrev next : List ℕ
-        next = noted_down a.notes s (global_of clocks s)
-
-        next-own : note_at next k ≡ local_note s
-        unfolding noted_down
-        next-own =
-            let p : k < 8 = valid-place s v in let c : length a.notes ≡ 16 = n.sized in
-            get_or-set_other (set a.notes k (local_note s)) (k + 8) k global 0 (λ e. omega (arith, e)) ∙ get_or-set_same a.notes k (local_note s) 0 (omega arith)
-
-        next-global : note_at next (k + 8) ≡ global
-        unfolding noted_down
-        next-global =
-            let p : k < 8 = valid-place s v in let c : length a.notes ≡ 16 = n.sized in
-            get_or-set_same (set a.notes k (local_note s)) (k + 8) global 0 (simp length-set (omega arith))
-
-        next_else : (j : ℕ) → (j ≡ k → ⊥) → (j ≡ k + 8 → ⊥) → note_at next j ≡ note_at a.notes j
-        unfolding noted_down
-        next_else j d e = get_or-set_other (set a.notes k (local_note s)) (k + 8) j global 0 e ∙ get_or-set_other a.notes k j (local_note s) 0 d
-
-        next-sized : length next ≡ 16
-        unfolding noted_down
-        next-sized = simp length-set n.sized
-
         abbrev more : Gathering
-        more = gathering_of (widened_by a.span (global_of clocks s)) next
+        more = record { span = widened_by a.span (global_of clocks s); notes = set a.notes k (local_note s); globals = set a.globals k (global_of clocks s) }
+
+        next-own : note_at more.notes k ≡ local_note s
+        next-own = get_or-set_same a.notes k (local_note s) 0 (let p : k < 8 = valid-place s v in let c = n.sized.0 in omega (arith, p, c))
+
+        next-global : global_at more.globals k ≡ global_of clocks s
+        next-global = get_or-set_same a.globals k (global_of clocks s) global_zero (let p : k < 8 = valid-place s v in let c = n.sized.1 in omega (arith, p, c))
+
+        next_else : (j : ℕ) → (j ≡ k → ⊥) → note_at more.notes j ≡ note_at a.notes j
+        next_else j d = get_or-set_other a.notes k j (local_note s) 0 d
 
         earlier_noted : (e : Timestamp) → e is_in l → NotedIn clocks more e
         unfolding widened_by
         earlier_noted e i =
-            let x : NotedIn clocks a e = n.each e i in let p : k < 8 = valid-place s v in
+            let x : NotedIn clocks a e = n.each e i in
             record {
               place = x.place;
-              local = next_else e.logger (differs e i) (λ q. omega (arith, q, x.place)) ∙ x.local;
-              global = next_else (e.logger + 8) (λ q. omega (arith, q, p)) (λ q. differs e i (omega (arith, q))) ∙ x.global;
+              local = next_else e.logger (differs e i) ∙ x.local;
+              global = get_or-set_other a.globals k e.logger (global_of clocks s) global_zero (differs e i) ∙ x.global;
               low = omega (arith, x.low);
               high = omega (arith, x.high);
             }
@@ -199,12 +185,12 @@ module _ (clocks : Clocks) where
         pub noted_first : max a.span.highest.0 global ≤ min a.span.lowest.0 global + 1 → NotedList clocks (l ++ (s ∷ [])) more
         unfolding widened_by
         noted_first h = record {
-          sized = next-sized;
+          sized = (length-set a.notes k (local_note s) ∙ n.sized.0, length-set a.globals k (global_of clocks s) ∙ n.sized.1);
           each = λ e m. ⊎_elim (λ i. earlier_noted e i) (λ i. subst (NotedIn clocks more) (sym (Memᴰ.eq_of_singleton i)) own_noted) (Memᴰ.append_cases l m);
           held = λ j m p. elim (ℕ_discrete j k) [
-            | yes e ↦ Memᴰ.append_right l (Memᴰ.head (same-stamp (noted_at next j) s e (let o : note_at next j ≡ local_note s = ap (note_at next) e ∙ next-own in omega arith)))
-            | no d ↦ (let o : note_at next j ≡ note_at a.notes j = next_else j d (λ q. omega (arith, q, m)) in
-                Memᴰ.append_left (s ∷ []) (Memᴰ.cast (same-stamp (noted_at next j) (noted_at a.notes j) refl (omega arith)) (n.held j m (omega arith))))
+            | yes e ↦ Memᴰ.append_right l (Memᴰ.head (same-stamp (noted_at more.notes j) s e (let o : note_at more.notes j ≡ local_note s = ap (note_at more.notes) e ∙ next-own in omega arith)))
+            | no d ↦ (let o : note_at more.notes j ≡ note_at a.notes j = next_else j d in
+                Memᴰ.append_left (s ∷ []) (Memᴰ.cast (same-stamp (noted_at more.notes j) (noted_at a.notes j) refl (omega arith)) (n.held j m (omega arith))))
           ];
           lowest = λ p. elim (dec_lt global a.span.lowest.0) [
             | yes c ↦ (s, Memᴰ.append_right l (Memᴰ.head refl), omega arith)

@@ -25,8 +25,12 @@ use Rattle.comparisons.specs.declared.Gathering.{Gathering}
 use Rattle.comparisons.specs.declared.Around.{Around}
 use Rattle.comparisons.specs.declared.Replies.{Replies}
 use Rattle.comparisons.specs.declared.Span.{Span}
-use Rattle.comparisons.specs.Notes.{NotedList, all_related, around_of, each_has_earlier, has_earlier, no_lowest, noted_at, order_noted, related_at, related_by, related_notes, relation_noted, tick_of}
+use Rattle.comparisons.specs.Notes.{NotedList, all_related, around_of, each_has_earlier, global_at, has_earlier, has_earlier_at, no_lowest, noted_at, order_noted, related_at, related_by, related_lists, related_next, relation_noted, tick_of}
 use Rattle.comparisons.proofs.Notes.{met_earlier, met_later}
+
+and_thrice : (x y z : Bool) → ((x && y) && z) ≡ (x && (y && z))
+and_thrice true y z = refl
+and_thrice false y z = refl
 
 -- ---- as the code tells it
 module _ (a : Span) (own : ℕ) (t : LocalTick) (g : GlobalTick) (e l : Bool) (p : e ≡ clearly_earlier a.lowest g) (q : l ≡ clearly_earlier g a.highest) where
@@ -37,56 +41,54 @@ module _ (a : Span) (own : ℕ) (t : LocalTick) (g : GlobalTick) (e l : Bool) (p
     later = sym (or-false (clearly_earlier g a.highest)) i;
   })
 
-  pub around_own : (x y b c : Bool) → (own ≡ 0 → ⊥) → x ≡ ltb (own - 1) t.0 → b ≡ (e || x) → y ≡ ltb t.0 (own - 1) → c ≡ (l || y)
+  pub around_own : (b c : Bool) → (own ≡ 0 → ⊥) → b ≡ (e || ltb (own - 1) t.0) → c ≡ (l || ltb t.0 (own - 1))
       → ◌≡◌ {A = Around} (record { earlier = b; later = c }) (around_of a own t g)
   unfolding around_of
-  around_own x y b c z f h j k = rw (lt-ltb 0 own (omega (arith, z)), h, k, f, j, p, q)
+  around_own b c z h k = rw (lt-ltb 0 own (omega (arith, z)), h, k, p, q)
 
-pub related_told : (a : Span) (own note g : ℕ) (r : Replies) (m : Around) (n b c w : Bool) → (note ≡ 0 → ⊥) → m ≡ around_of a own (tick_of note) (record { 0 = g })
-    → n ≡ (not m.earlier && not m.later) → b ≡ (r.before && m.earlier) → c ≡ (r.concurrent && n) → w ≡ (r.weakly_before && not m.later)
+pub related_told : (a : Span) (own note : ℕ) (g : GlobalTick) (r : Replies) (m : Around) (b c w : Bool) → (note ≡ 0 → ⊥) → m ≡ around_of a own (tick_of note) g
+    → b ≡ (r.before && m.earlier) → c ≡ ((r.concurrent && not m.earlier) && not m.later) → w ≡ (r.weakly_before && not m.later)
     → ◌≡◌ {A = Replies} (record { before = b; concurrent = c; weakly_before = w }) (related_at a own note g r)
 unfolding related_at
-related_told a own note g r m n b c w z e f h j k = rw (ne_eqb note 0 z, ← e, h, j, k, f)
+related_told a own note g r m b c w z e h j k = rw (ne_eqb note 0 z, ← e, h, j, k) (λ i. record {
+  before = r.before && m.earlier;
+  concurrent = and_thrice r.concurrent (not m.earlier) (not m.later) i;
+  weakly_before = r.weakly_before && not m.later;
+})
 
 -- from place k on
-unfoldable pub related_rest : Span → List ℕ → List ℕ → Replies → ℕ → Replies
-related_rest a first second r k = fold (λ q j. related_at a (note_at first j) (note_at second j) (note_at second (j + 8)) q) (numbers_from k (8 - k)) r
+unfoldable pub related_rest : Gathering → Gathering → Replies → ℕ → Replies
+related_rest a b r k = fold (related_next a b) (numbers_from k (8 - k)) r
 
-module _ (a : Span) (first second : List ℕ) where
-  abbrev step : Replies → ℕ → Replies
-  step r j = related_at a (note_at first j) (note_at second j) (note_at second (j + 8)) r
-
-  pub rest-start : related_rest a first second all_related 0 ≡ related_notes a first second
-  unfolding related_notes related_rest
+module _ (a b : Gathering) where
+  pub rest-start : related_rest a b all_related 0 ≡ related_lists a b
+  unfolding related_lists related_rest
   rest-start = refl
 
-  pub rest_turn : (r q : Replies) (k : ℕ) → k < 8 → q ≡ step r k → related_rest a first second q (k + 1) ≡ related_rest a first second r k
+  pub rest_turn : (r q : Replies) (k : ℕ) → k < 8 → q ≡ related_next a b r k → related_rest a b q (k + 1) ≡ related_rest a b r k
   unfolding related_rest
-  rest_turn r q k l e = rw e (each_turn step 8 k r l)
+  rest_turn r q k l e = rw e (each_turn (related_next a b) 8 k r l)
 
-  pub rest_end : (r : Replies) (k : ℕ) → 8 ≤ k → r ≡ related_rest a first second r k
+  pub rest_end : (r : Replies) (k : ℕ) → 8 ≤ k → r ≡ related_rest a b r k
   unfolding related_rest
-  rest_end r k l = sym (each_done step 8 k r l)
+  rest_end r k l = sym (each_done (related_next a b) 8 k r l)
 
 -- each place from k on
-unfoldable pub earlier_rest : ℕ → GlobalTick → List ℕ → List ℕ → ℕ → Bool
-earlier_rest ratio low first second k = each_passes (λ j. has_earlier ratio low (note_at first j) (note_at second j)) (numbers_from k (8 - k))
+unfoldable pub earlier_rest : ℕ → Gathering → Gathering → ℕ → Bool
+earlier_rest ratio a b k = each_passes (has_earlier_at ratio a b) (numbers_from k (8 - k))
 
-module _ (ratio : ℕ) (low : GlobalTick) (first second : List ℕ) where
-  abbrev has : ℕ → Bool
-  has j = has_earlier ratio low (note_at first j) (note_at second j)
-
-  pub earlier_start : earlier_rest ratio low first second 0 ≡ each_has_earlier ratio low first second
+module _ (ratio : ℕ) (a b : Gathering) where
+  pub earlier_start : earlier_rest ratio a b 0 ≡ each_has_earlier ratio a b
   unfolding earlier_rest each_has_earlier
   earlier_start = refl
 
-  pub earlier_turn : (k : ℕ) (h : Bool) → k < 8 → h ≡ has k → (h && earlier_rest ratio low first second (k + 1)) ≡ earlier_rest ratio low first second k
+  pub earlier_turn : (k : ℕ) (h : Bool) → k < 8 → h ≡ has_earlier_at ratio a b k → (h && earlier_rest ratio a b (k + 1)) ≡ earlier_rest ratio a b k
   unfolding earlier_rest
-  earlier_turn k h l e = rw e (all_turn has 8 k true l)
+  earlier_turn k h l e = rw e (all_turn (has_earlier_at ratio a b) 8 k true l)
 
-  pub earlier_end : (k : ℕ) → 8 ≤ k → true ≡ earlier_rest ratio low first second k
+  pub earlier_end : (k : ℕ) → 8 ≤ k → true ≡ earlier_rest ratio a b k
   unfolding earlier_rest
-  earlier_end k l = sym (all_done has 8 k true l)
+  earlier_end k l = sym (all_done (has_earlier_at ratio a b) 8 k true l)
 
 -- ---- all the places
 -- where a place is passed over, nothing changes
@@ -106,10 +108,6 @@ one_more_lem false r m x y z = λ i. record {
   concurrent = and_thrice r.concurrent (not m.earlier && not m.later) y i;
   weakly_before = and_thrice r.weakly_before (not m.later) z i;
 }
-  where
-    and_thrice : (x y z : Bool) → ((x && y) && z) ≡ (x && (y && z))
-    and_thrice true y z = refl
-    and_thrice false y z = refl
 
 module _ (skip : ℕ → Bool) (m : ℕ → Around) where
   fold-related : (ks : List ℕ) (r : Replies) → fold (λ q k. one_more (skip k) q (m k)) ks r ≡ record {
@@ -160,7 +158,7 @@ module _ (clocks : Clocks) (a b : List Timestamp) (first second : Gathering) (n 
   skip k = eqb (note k) 0
 
   abbrev around : ℕ → Around
-  around k = around_of first.span (own k) (tick_of (note k)) (record { 0 = note_at second.notes (k + 8) })
+  around k = around_of first.span (own k) (tick_of (note k)) (global_at second.globals k)
 
   abbrev stamp : ℕ → Timestamp
   stamp k = noted_at second.notes k
@@ -178,7 +176,7 @@ module _ (clocks : Clocks) (a b : List Timestamp) (first second : Gathering) (n 
   met : (k : ℕ) → k < 8 → (note k ≡ 0 → ⊥) → (some_earlier (stamp k) ≡ (around k).earlier) × (some_later (stamp k) ≡ (around k).later)
   unfolding around_of clearly_earlier
   met k m z =
-      let f : note_at second.notes (k + 8) ≡ (global_of clocks (stamp k)).0 = (o.each (stamp k) (o.held k m (omega (arith, z)))).global in
+      let f : global_at second.globals k ≡ global_of clocks (stamp k) = (o.each (stamp k) (o.held k m (omega (arith, z)))).global in
       (rw f (met_earlier clocks a first n (stamp k) (small k m z) m), rw f (met_later clocks a first n (stamp k) (small k m z) m))
 
   -- the test p of a timestamp is the test q of how the first list meets it
@@ -193,9 +191,9 @@ module _ (clocks : Clocks) (a b : List Timestamp) (first second : Gathering) (n 
   unfolding concurrent
   apart t = all_and (λ s. not (before clocks s t)) (λ s. not (before clocks t s)) a ∙ rw (all_not (λ s. before clocks s t) a, all_not (before clocks t) a)
 
-  replies_are : related_notes first.span first.notes second.notes
+  replies_are : related_lists first second
       ≡ record { before = all_before clocks a b; concurrent = all_concurrent clocks a b; weakly_before = stamps_weakly_before clocks a b }
-  unfolding related_notes related_at all_before all_concurrent stamps_weakly_before
+  unfolding related_lists related_at all_before all_concurrent stamps_weakly_before
   replies_are = fold-related skip around logger_places all_related ∙ (λ i. record {
     before = sym (places some_earlier (λ m. m.earlier) (λ k l z. (met k l z).0)) i;
     concurrent = sym (places (λ t. each_passes (λ s. concurrent clocks s t) a) (λ m. not m.earlier && not m.later)
@@ -204,7 +202,7 @@ module _ (clocks : Clocks) (a b : List Timestamp) (first second : Gathering) (n 
   })
 
   -- a place of the second list, as the code tells it for the word
-  has-at : (k : ℕ) → k < 8 → has_earlier clocks.ratio first.span.lowest (own k) (note k) ≡ (skip k || some_earlier (stamp k))
+  has-at : (k : ℕ) → k < 8 → has_earlier_at clocks.ratio first second k ≡ (skip k || some_earlier (stamp k))
   unfolding has_earlier clearly_earlier global_of
   has-at k l = elim (ℕ_discrete (note k) 0) [
     | yes z ↦ rw (eq-eqb (note k) 0 z)
@@ -217,7 +215,7 @@ module _ (clocks : Clocks) (a b : List Timestamp) (first second : Gathering) (n 
       turned true y = sym (or-true y)
       turned false y = sym (or-false y)
 
-  each-is : each_has_earlier clocks.ratio first.span.lowest first.notes second.notes ≡ all_before clocks a b
+  each-is : each_has_earlier clocks.ratio first second ≡ all_before clocks a b
   unfolding each_has_earlier all_before
   each-is = all_same _ _ logger_places (λ k i. has-at k (range_of 0 8 i).1) ∙ sym (all_noted clocks b second o some_earlier)
 

@@ -1,4 +1,4 @@
 pub mod Adding
 pub mod Clearing
-pub mod Joins
 pub mod Notes
+pub mod Entries

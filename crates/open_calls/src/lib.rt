@@ -1,26 +1,32 @@
 // The join of a lent list, one of the two calls that stand open to any caller; and what it shares with the other, the comparison.
 #![tactic(auto)]
 
-ghost use Rattle.std.specs.Prelude.{◌≡◌, true, false, List, [], ◌∷◌, ◌++◌, ℕ, ◌<◌, ltb, length};
+ghost use Rattle.std.specs.Prelude.{◌≡◌, true, List, [], ◌∷◌, ◌++◌, ◌<◌, ltb, OnOk};
 ghost use Rattle.sequences.specs.Select.{each_passes};
 ghost use Rattle.timestamps.specs.declared.Timestamp.{Timestamp};
 ghost use Rattle.timestamps.specs.Order.{clocks_of, valid};
-ghost use Rattle.open_calls.specs.Answers.{join_answer, number_of, refusal, refused_join, valid_length};
-ghost use Rattle.open_calls.specs.Notes.{Joined, Raised, RoomFor, clear_note, global_note, left_by, local_note, shown_from, shown_note};
-ghost use Rattle.open_calls.specs.Steps.{Joins, join_start, join_verdict, joining_of, nothing_judged};
+ghost use Rattle.open_calls.specs.Answers.{join_answer, number_of, refused_join, valid_length};
+ghost use Rattle.open_calls.specs.Notes.{Joined, Raised, RoomFor, clear_note, global_note, left_by, local_note, no_notes, shown_from, shown_note};
+ghost use Rattle.open_calls.specs.Steps.{call_judged, entries_judged, list_judged};
 
 use timestamps::{GlobalTick, LocalTick, Timestamp};
 
 // ---- answers
 
 // Why a call is turned back; document 01's numbers 34 to 37 (specs/Answers.antt, number_of).
-#[derive(Clone, Copy)]
-pub enum Verdict {
-    Accepted,
-    BadRatio,
-    BadLength,
-    BadEntry,
-    NotConcurrent,
+#[derive(Clone, Copy, PartialEq, Eq)]
+pub enum Refusal {
+    BadRatio = 34,
+    BadLength = 35,
+    BadEntry = 36,
+    NotConcurrent = 37,
+}
+
+// A call that is turned back, and at which place.
+#[derive(Clone, Copy, PartialEq, Eq)]
+pub struct Refused {
+    pub why: Refusal,
+    pub place: u64,
 }
 
 // One timestamp for each logger place, blank where there is none.
@@ -32,50 +38,61 @@ pub struct JoinAnswer {
     pub timestamps: [Timestamp; 8],
 }
 
-impl Verdict {
-    // Document 01's number of the verdict, 0 where the call is accepted.
+impl Refusal {
+    // Document 01's number.
     pub fn number(self) -> u64
         ensures { result ≡ number_of self }
     {
-        match self {
-            Verdict::Accepted => 0,
-            Verdict::BadRatio => 34,
-            Verdict::BadLength => 35,
-            Verdict::BadEntry => 36,
-            Verdict::NotConcurrent => 37,
-        }
-    }
-
-    pub fn is_refusal(self) -> bool
-        ensures { result ≡ refusal self }
-    {
-        0 < self.number()
+        self as u64
     }
 }
 
 pub fn is_length(n: usize) -> bool
     ensures { result ≡ valid_length n }
 {
-    if n == 0 { false } else { n <= 128 }
+    1 <= n && n <= 128
 }
 
-fn refused_join(v: Verdict, place: u64) -> JoinAnswer
-    ensures { result ≡ refused_join v place }
+// The ratio, then the length of the (first) list.
+pub fn judge_call(ratio: u64, n: usize) -> Result<(), Refused>
+    ensures { result ≡ call_judged ratio n }
 {
-    let number = v.number();
-    let blank = Timestamp::blank();
+    if !timestamps::valid_ratio(ratio) {
+        Err(Refused {
+            why: Refusal::BadRatio,
+            place: 0,
+        })
+    } else if !is_length(n) {
+        Err(Refused {
+            why: Refusal::BadLength,
+            place: 0,
+        })
+    } else {
+        Ok(())
+    }
+}
+
+fn refused_join(refused: Refused) -> JoinAnswer
+    ensures { result ≡ refused_join refused.why refused.place }
+{
     JoinAnswer {
-        number: number,
-        place: place,
-        timestamps: [blank; 8],
+        number: refused.why.number(),
+        place: refused.place,
+        timestamps: [Timestamp::blank(); 8],
     }
 }
 
 // ---- notes
 
-// What is noted of the join of a list: of the logger at place k its local tick at k and its global tick at 8 + k, and at 16 the highest global tick.
-// Each is noted as the tick plus 1, and 0 where there is none (specs/Notes.antt): so two notes compare as their two ticks do.
-pub type JoinNotes = [u64; 17];
+// What is noted of the join of a list, at each logger place: the tick of the logger's timestamp and its global tick; and the highest global tick.
+// Each is noted as the tick plus 1, and 0 where there is none (specs/Notes.antt): so two notes compare as their two ticks do, and one comparison tells
+// whether a timestamp comes to stand. An Option would be looked into first at every entry.
+#[derive(Clone, Copy)]
+struct JoinNotes {
+    ticks: [u64; 8],
+    globals: [u64; 8],
+    highest: u64,
+}
 
 // The note of its local tick.
 pub fn note_of(s: Timestamp) -> u64
@@ -90,251 +107,149 @@ fn global_note(s: Timestamp, ratio: u64) -> u64
     requires { valid s ≡ true }
     ensures { result ≡ global_note (clocks_of ratio) s }
 {
-    let g = s.tick.global(ratio);
-    g.0 + 1
+    s.tick.global(ratio).0 + 1
 }
 
 // Of two notes of one logger's local ticks the first is the earlier.
 fn is_earlier(note: u64, other: u64) -> bool
     ensures { result ≡ ltb note other }
 {
-    let t = LocalTick(note);
-    let u = LocalTick(other);
-    t.earlier(u)
+    LocalTick(note).earlier(LocalTick(other))
 }
 
 // Of two notes of global ticks the first is clearly earlier.
 fn is_clear(note: u64, other: u64) -> bool
     ensures { result ≡ clear_note note other }
 {
-    let g = GlobalTick(note);
-    let h = GlobalTick(other);
-    g.clearly_earlier(h)
+    GlobalTick(note).clearly_earlier(GlobalTick(other))
 }
 
 // ---- adding a timestamp
 
-// The timestamp at place k leaves if it is clearly earlier.
-fn leave(join: &mut JoinNotes, k: usize, global: u64)
-    requires { k < 8 }
-    ensures { join.new ≡ left_by join.old k global }
-{
-    let held = join[8 + k];
-    if is_clear(held, global) {
-        join[k] = 0;
-        join[8 + k] = 0;
-    }
-}
-
-// A new highest global tick: all that are clearly earlier leave.
-fn raise_to(join: &mut JoinNotes, global: u64)
-    ensures { length join.old ≡ 17 → Raised join.old global join.new }
-{
-    let mut k: usize = 0;
-    while k < 8 {
-        leave(join, k, global);
-        k = k + 1;
-    }
-    join[16] = global;
-}
-
-// Where it is not the highest none is clearly earlier: the timestamps of a join are at most one global tick apart.
-fn make_room(join: &mut JoinNotes, global: u64)
-    ensures { length join.old ≡ 17 → RoomFor join.old global join.new }
-{
-    let highest = GlobalTick(join[16]);
-    let g = GlobalTick(global);
-    if highest.earlier(g) {
-        raise_to(join, global);
-    }
-}
-
-// The join with one timestamp more. One that is no later than its logger's is not divided. Where its logger has none, only the global tick tells
-// whether it comes to stand.
-fn add(join: &mut JoinNotes, s: Timestamp, ratio: u64)
-    requires { valid s ≡ true }
-    ensures joined { (l : List Timestamp) → each_passes valid l ≡ true
-        → Joined (clocks_of ratio) l join.old
-        → Joined (clocks_of ratio) (l ++ (s ∷ [])) join.new }
-{
-    let k = s.logger as usize;
-    let held = join[k];
-    let note = note_of(s);
-    if is_earlier(held, note) {
-        let global = global_note(s, ratio);
-        let highest = join[16];
-        if !is_clear(global, highest) {
-            make_room(join, global);
-            join[k] = note;
-            join[8 + k] = global;
-        }
-    }
-}
-
-// ---- the join
-
-// The verdict on a list so far: turned back, and at which place, or not.
-#[derive(Clone, Copy)]
-pub struct VerdictAt {
-    pub verdict: Verdict,
-    pub place: u64,
-}
-
-// A list judged, and joined while no entry turned it back.
-#[derive(Clone, Copy)]
-pub struct Joining {
-    pub judged: VerdictAt,
-    pub join: JoinNotes,
-}
-
-// Before the list is walked: turned back at once, or nothing judged yet.
-#[derive(Clone, Copy)]
-pub struct JoinStart {
-    pub stop: bool,
-    pub answer: JoinAnswer,
-    pub judged: VerdictAt,
-}
-
-pub fn join_verdict(ratio: u64, n: usize) -> Verdict
-    ensures { result ≡ join_verdict ratio n }
-{
-    if !timestamps::valid_ratio(ratio) {
-        Verdict::BadRatio
-    } else if !is_length(n) {
-        Verdict::BadLength
-    } else {
-        Verdict::Accepted
-    }
-}
-
-pub fn join_start(ratio: u64, n: usize) -> JoinStart
-    ensures { result ≡ join_start ratio n }
-{
-    let v = join_verdict(ratio, n);
-    let stop = v.is_refusal();
-    let answer = refused_join(v, 0);
-    let judged = VerdictAt {
-        verdict: Verdict::Accepted,
-        place: 0,
+impl JoinNotes {
+    const NONE: JoinNotes = JoinNotes {
+        ticks: [0; 8],
+        globals: [0; 8],
+        highest: 0,
     };
-    JoinStart {
-        stop: stop,
-        answer: answer,
-        judged: judged,
+
+    // The timestamp at place k leaves if it is clearly earlier.
+    fn leave(&mut self, k: usize, global: u64)
+        requires { k < 8 }
+        ensures { self.new ≡ left_by self.old k global }
+    {
+        if is_clear(self.globals[k], global) {
+            self.ticks[k] = 0;
+            self.globals[k] = 0;
+        }
+    }
+
+    // A new highest global tick: all that are clearly earlier leave.
+    fn raise_to(&mut self, global: u64)
+        ensures { Raised self.old global self.new }
+    {
+        for k in 0..8 {
+            self.leave(k, global);
+        }
+        self.highest = global;
+    }
+
+    // Where it is not the highest none is clearly earlier: the timestamps of a join are at most one global tick apart.
+    fn make_room(&mut self, global: u64)
+        ensures { RoomFor self.old global self.new }
+    {
+        if GlobalTick(self.highest).earlier(GlobalTick(global)) {
+            self.raise_to(global);
+        }
+    }
+
+    // The join with one timestamp more. One that is no later than its logger's is not divided. Where its logger has none, only the global tick tells
+    // whether it comes to stand.
+    fn add(&mut self, s: Timestamp, ratio: u64)
+        requires { valid s ≡ true }
+        ensures joined { (l : List Timestamp) → each_passes valid l ≡ true
+            → Joined (clocks_of ratio) l self.old
+            → Joined (clocks_of ratio) (l ++ (s ∷ [])) self.new }
+    {
+        let k = s.logger as usize;
+        let note = note_of(s);
+        if is_earlier(self.ticks[k], note) {
+            let global = global_note(s, ratio);
+            if !is_clear(global, self.highest) {
+                self.make_room(global);
+                self.ticks[k] = note;
+                self.globals[k] = global;
+            }
+        }
+    }
+
+    // The timestamps of the join, as the answer shows them.
+    fn show(&self) -> [Timestamp; 8]
+        ensures { result ≡ shown_from self.now }
+    {
+        let mut shown = [Timestamp::blank(); 8];
+        for k in 0..8 {
+            shown[k] = show_note(self.ticks[k], k);
+        }
+        shown
     }
 }
 
-// One entry more: after a bad one nothing changes. What is handed back is made anew in each case: `a` itself would be copied with its padding,
-// and every entry would wait for that copy.
-pub fn join_step(
-    a: VerdictAt,
-    join: &mut JoinNotes,
-    s: Timestamp,
-    i: usize,
-    ratio: u64,
-) -> VerdictAt
-    ensures joined { (l : List Timestamp) → length l ≡ i
-        → Joins (clocks_of ratio) l (joining_of a join.old)
-        → Joins (clocks_of ratio) (l ++ (s ∷ [])) (joining_of result join.new) }
-{
-    let v = a.verdict;
-    let place = a.place;
-    if v.is_refusal() {
-        VerdictAt {
-            verdict: v,
-            place: place,
-        }
-    } else if s.valid() {
-        add(join, s, ratio);
-        VerdictAt {
-            verdict: Verdict::Accepted,
-            place: 0,
-        }
-    } else {
-        VerdictAt {
-            verdict: Verdict::BadEntry,
-            place: i as u64,
-        }
-    }
-}
-
-// The join stays in one place and is lent to each step: after i entries it is the join of the first i.
-pub fn fold_join(init: VerdictAt, list: &[Timestamp], ratio: u64) -> Joining
-    ensures joined { init ≡ nothing_judged → Joins (clocks_of ratio) list.now result }
-{
-    let mut join: JoinNotes = [0; 17];
-    let mut a = init;
-    let mut i: usize = 0;
-    while i < list.len() {
-        let s = list[i];
-        a = join_step(a, &mut join, s, i, ratio);
-        i = i + 1;
-    }
-    Joining {
-        judged: a,
-        join: join,
-    }
-}
-
-// The timestamp of a note, as the answer shows it.
+// The timestamp of a note.
 fn show_note(note: u64, k: usize) -> Timestamp
     requires { k < 8 }
     ensures { result ≡ shown_note note k }
 {
     if 0 < note {
-        let t = LocalTick(note - 1);
         Timestamp {
             logger: k as u8,
-            tick: t,
+            tick: LocalTick(note - 1),
         }
     } else {
         Timestamp::blank()
     }
 }
 
-fn show(join: JoinNotes) -> [Timestamp; 8]
-    ensures { result ≡ shown_from join }
+// ---- the join
+
+// The notes of the join of a list, one entry at a time, up to the first bad entry. They stay in one place and are lent to each step: after i entries
+// they are those of the join of the first i.
+fn join_entries(ratio: u64, list: &[Timestamp], join: &mut JoinNotes) -> Result<(), Refused>
+    ensures judged { result ≡ entries_judged list.now }
+    ensures joined { join.old ≡ no_notes → OnOk result (Joined (clocks_of ratio) list.now join.new) }
 {
-    let blank = Timestamp::blank();
-    let mut shown = [blank; 8];
-    let mut k: usize = 0;
-    while k < 8 {
-        shown[k] = show_note(join[k], k);
-        k = k + 1;
+    for (i, s) in list.iter().enumerate() {
+        if !s.valid() {
+            return Err(Refused {
+                why: Refusal::BadEntry,
+                place: i as u64,
+            });
+        }
+        join.add(*s, ratio);
     }
-    shown
+    Ok(())
 }
 
-// The answer for a list that has been walked.
-pub fn join_done(a: Joining) -> JoinAnswer
-    ensures answered { (ratio : ℕ) (l : List Timestamp) → refusal (join_verdict ratio (length l)) ≡ false
-        → Joins (clocks_of ratio) l a → result ≡ join_answer ratio l }
+// The ratio and the length, without a look at the list, then its entries.
+fn join_list(ratio: u64, list: &[Timestamp], join: &mut JoinNotes) -> Result<(), Refused>
+    ensures judged { result ≡ list_judged ratio list.now }
+    ensures joined { join.old ≡ no_notes → OnOk result (Joined (clocks_of ratio) list.now join.new) }
 {
-    let judged = a.judged;
-    let v = judged.verdict;
-    let place = judged.place;
-    let join = a.join;
-    if v.is_refusal() {
-        refused_join(v, place)
-    } else {
-        let shown = show(join);
-        JoinAnswer {
-            number: 0,
-            place: 0,
-            timestamps: shown,
-        }
-    }
+    judge_call(ratio, list.len())?;
+    join_entries(ratio, list, join)
 }
 
 // The join of a lent list.
 pub fn join(ratio: u64, list: &[Timestamp]) -> JoinAnswer
     ensures { result ≡ join_answer ratio list.now }
 {
-    let n = list.len();
-    let start = join_start(ratio, n);
-    if start.stop {
-        return start.answer;
+    let mut join = JoinNotes::NONE;
+    match join_list(ratio, list, &mut join) {
+        Ok(()) => JoinAnswer {
+            number: 0,
+            place: 0,
+            timestamps: join.show(),
+        },
+        Err(refused) => refused_join(refused),
     }
-    let a = fold_join(start.judged, list, ratio);
-    join_done(a)
 }

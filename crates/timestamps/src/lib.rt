@@ -2,7 +2,7 @@
 #![tactic(auto)]
 
 ghost use Rattle.std.specs.Prelude.{◌≡◌, max, min, ltb};
-ghost use Rattle.timestamps.specs.Comparison.{order_number, same_order};
+ghost use Rattle.timestamps.specs.Comparison.{order_number};
 ghost use Rattle.timestamps.specs.Order.{blank, clearly_earlier, quotient, valid, valid_ratio};
 
 // ---- timestamps
@@ -40,7 +40,7 @@ impl LocalTick {
     pub fn earlier(self, other: LocalTick) -> bool
         ensures { result ≡ ltb self.0 other.0 }
     {
-        self.0 < other.0
+        self < other
     }
 }
 
@@ -49,31 +49,27 @@ impl GlobalTick {
     pub fn clearly_earlier(self, other: GlobalTick) -> bool
         ensures { result ≡ clearly_earlier self other }
     {
-        if other.0 == 0 {
-            false
-        } else {
-            self.0 < other.0 - 1
-        }
+        other.0 != 0 && self.0 < other.0 - 1
     }
 
     pub fn earlier(self, other: GlobalTick) -> bool
         ensures { result ≡ ltb self.0 other.0 }
     {
-        self.0 < other.0
+        self < other
     }
 
     // The earlier of two.
     pub fn earliest(self, other: GlobalTick) -> GlobalTick
         ensures { result.0 ≡ min self.0 other.0 }
     {
-        if other.0 < self.0 { other } else { self }
+        self.min(other)
     }
 
     // The later of two.
     pub fn latest(self, other: GlobalTick) -> GlobalTick
         ensures { result.0 ≡ max self.0 other.0 }
     {
-        if self.0 < other.0 { other } else { self }
+        self.max(other)
     }
 }
 
@@ -86,10 +82,9 @@ impl Timestamp {
     pub fn blank() -> Timestamp
         ensures { result ≡ blank }
     {
-        let tick = LocalTick(0);
         Timestamp {
             logger: 255,
-            tick: tick,
+            tick: LocalTick(0),
         }
     }
 
@@ -97,22 +92,14 @@ impl Timestamp {
     pub fn valid(self) -> bool
         ensures { result ≡ valid self }
     {
-        if 7 < self.logger {
-            false
-        } else {
-            self.tick.0 <= Timestamp::MAX_TICK
-        }
+        self.logger <= 7 && self.tick.0 <= Timestamp::MAX_TICK
     }
 }
 
 pub fn valid_ratio(ratio: u64) -> bool
     ensures { result ≡ valid_ratio ratio }
 {
-    if ratio == 0 {
-        false
-    } else {
-        ratio <= Timestamp::MAX_RATIO
-    }
+    1 <= ratio && ratio <= Timestamp::MAX_RATIO
 }
 
 // What is noted of an event: its local tick and its global tick, each plus one; 0 for none.
@@ -136,10 +123,10 @@ pub struct CompositeTimestamp {
 // The word for how one composite stands to another (specs/Comparison.antt: `says` what each means, `order_number` its number).
 #[derive(Clone, Copy, PartialEq, Eq)]
 pub enum Order {
-    Incomparable,
-    Before,
-    After,
-    Concurrent,
+    Incomparable = 0,
+    Before = 1,
+    After = 2,
+    Concurrent = 3,
 }
 
 impl Order {
@@ -147,19 +134,7 @@ impl Order {
     pub fn number(self) -> u8
         ensures { result ≡ order_number self }
     {
-        match self {
-            Order::Incomparable => 0,
-            Order::Before => 1,
-            Order::After => 2,
-            Order::Concurrent => 3,
-        }
-    }
-
-    // Whether it is this word.
-    pub fn is(self, word: Order) -> bool
-        ensures { result ≡ same_order self word }
-    {
-        self.number() == word.number()
+        self as u8
     }
 }
 

@@ -9,9 +9,9 @@ returns-then-note-eq0 c = rw (eq-eqb _ _ c.if-note-eq0.true)
 
 pub returns-then-is_earlier : goal.returns-then-is_earlier
 unfolding has_earlier
-returns-then-is_earlier c = rw (ne_eqb _ _ c.if-note-eq0.false, sym c.is_earlier.ensures ∙ c.if-is_earlier.true)
+returns-then-is_earlier c = rw (ne_eqb _ _ c.if-note-eq0.false, sym c.is_earlier.ensures ∙ c.if-is_earlier.true) c.if-is_earlier.true
 
-pub returns : goal.returns
+pub returns-else-is_earlier : goal.returns-else-is_earlier
 unfolding has_earlier
-returns c =
-    simp (ne_eqb _ _ c.if-note-eq0.false, sym c.is_earlier.ensures ∙ c.if-is_earlier.false, c.clearly_earlier.ensures, c.global-g.ensures)
+returns-else-is_earlier c =
+    simp (ne_eqb _ _ c.if-note-eq0.false, sym c.is_earlier.ensures ∙ c.if-is_earlier.false, c.clearly_earlier.ensures, c.global.ensures)

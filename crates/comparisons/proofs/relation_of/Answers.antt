@@ -4,4 +4,4 @@ use Rattle.comparisons.proofs.relation_of.Goals as goal
 
 pub returns : goal.returns
 unfolding relation_noted
-returns c = simp (c.order_of-order.ensures, c.relate-r.ensures)
+returns c = simp (c.order_of.ensures, c.relate-r.ensures)

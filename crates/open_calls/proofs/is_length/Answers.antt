@@ -1,14 +1,13 @@
 -- Both limits.
+use Rattle.std.proofs.Common.{le-leb}
+use Rattle.std.proofs.lemmas.Bool.{lt-leb}
 use Rattle.open_calls.specs.Answers.{valid_length}
-use borrow.Author.Tests.{le-leb}
-use native.Mathlib.Omega.{arith}
-use Prim.Native.Nat.{◌≤◌}
 use Rattle.open_calls.proofs.is_length.Goals as goal
 
-pub returns-then-n-eq0 : goal.returns-then-n-eq0
+pub returns-then-n-ge1 : goal.returns-then-n-ge1
 unfolding valid_length
-returns-then-n-eq0 c = simp c.if-n-eq0.true
+returns-then-n-ge1 c = simp (le-leb _ _ c.if-n-ge1.true)
 
-pub returns-else-n-eq0 : goal.returns-else-n-eq0
+pub returns-else-n-ge1 : goal.returns-else-n-ge1
 unfolding valid_length
-returns-else-n-eq0 c = let h : 1 ≤ c.args.n = omega (arith, c.if-n-eq0.false) in simp (le-leb 1 _ h)
+returns-else-n-ge1 c = simp (lt-leb _ _ c.if-n-ge1.false)

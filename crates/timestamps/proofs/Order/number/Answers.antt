@@ -1,19 +1,18 @@
--- Case by case.
+-- Word by word.
+use Rattle.std.proofs.Common.{◌≡◌, refl}
+use denote.Enum.Declared.{tag_of}
+use Rattle.timestamps.specs.declared.Order.{Order}
+use Rattle.timestamps.specs.declared.Order.TheVariants.{Incomparable, Before, After, Concurrent}
+use Rattle.timestamps.specs.contracts.Order.{the_type}
 use Rattle.timestamps.specs.Comparison.{order_number}
 use Rattle.timestamps.proofs.Order.number.Goals as goal
 
-pub returns-in-Incomparable : goal.returns-in-Incomparable
+numbered : (w : Order) → tag_of the_type w ≡ order_number w
 unfolding order_number
-returns-in-Incomparable c = cc
+numbered Incomparable = refl
+numbered Before = refl
+numbered After = refl
+numbered Concurrent = refl
 
-pub returns-in-Before : goal.returns-in-Before
-unfolding order_number
-returns-in-Before c = cc
-
-pub returns-in-After : goal.returns-in-After
-unfolding order_number
-returns-in-After c = cc
-
-pub returns-in-Concurrent : goal.returns-in-Concurrent
-unfolding order_number
-returns-in-Concurrent c = cc
+pub returns : goal.returns
+returns c = numbered c.args.self

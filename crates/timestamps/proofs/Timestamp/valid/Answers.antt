@@ -1,12 +1,13 @@
 -- Both limits.
+use Rattle.std.proofs.Common.{le-leb}
+use Rattle.std.proofs.lemmas.Bool.{lt-leb}
 use Rattle.timestamps.specs.Order.{valid}
-use borrow.Author.Tests.{le-leb, lt-leb}
 use Rattle.timestamps.proofs.Timestamp.valid.Goals as goal
 
-pub returns-then-self-gt7 : goal.returns-then-self-gt7
+pub returns-then-self-le7 : goal.returns-then-self-le7
 unfolding valid
-returns-then-self-gt7 c = simp (lt-leb _ _ c.if-self-gt7.true)
+returns-then-self-le7 c = simp (le-leb _ _ c.if-self-le7.true)
 
-pub returns-else-self-gt7 : goal.returns-else-self-gt7
+pub returns-else-self-le7 : goal.returns-else-self-le7
 unfolding valid
-returns-else-self-gt7 c = simp (le-leb _ _ c.if-self-gt7.false)
+returns-else-self-le7 c = simp (lt-leb _ _ c.if-self-le7.false)
