@@ -105,6 +105,9 @@ module _ {A : Type 0} (f : Form A) (cut : ℕ) (fault : A → ℕ) (b : List ℕ
   pub piece_is : (a : A) → at + f.width ≤ length b → f.value b at ≡ a → fault a ≡ 0 → piece f cut fault b at ≡ got a (at + f.width)
   piece_is a h e k = piece-judged h ∙ rw (e, k)
 
+  pub piece_wrong : (a : A) → at + f.width ≤ length b → f.value b at ≡ a → 0 < fault a → piece f cut fault b at ≡ bad (fault a) at
+  piece_wrong a h e k = let some = ne_eqb (fault a) 0 (omega arith) in piece-judged h ∙ rw (e, some)
+
   -- as a reader gives them
   pub seen_right : (a : A) → at + f.width ≤ length b → a ≡ f.value b at → eqb (fault a) 0 ≡ true → seen 0 a (at + f.width) ≡ piece f cut fault b at
   unfolding seen
