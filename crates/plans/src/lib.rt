@@ -175,9 +175,9 @@ fn read_numbers(
     let (count, mut at) = read_number(bytes, start, 2, 1, limit, miscount)?;
     let count = count as usize;
     let mut least: u64 = 0;
-    for i in 0..count {
+    for entry in &mut into[..count] {
         let (n, next) = read_number(bytes, at, 2, least, 65535, disorder)?;
-        into[i] = n as u16;
+        *entry = n as u16;
         least = n + 1;
         at = next;
     }

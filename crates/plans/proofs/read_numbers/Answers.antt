@@ -1,10 +1,12 @@
 -- `plans::read_numbers`: the count, and a loop over as many numbers.
+use mathlib.Core.List.{◌++◌}
 use mathlib.Core.Path.{◌≡◌, sym, ◌∙◌}
-use Prim.Native.Nat.{◌<◌}
+use Prim.Native.Nat.{◌≤◌, ◌<◌}
 use native.Mathlib.Omega.{arith}
-use lib.ListN.{length, take}
+use lib.ListN.{length, drop, take}
 use lib.Seq.{length-take-le}
 use lib.Dec.{leb-zero}
+use Rattle.std.proofs.lemmas.List.{take-append-le}
 use Rattle.std.proofs.lemmas.Result.{err_from_is_err_and}
 use Rattle.forms.specs.Bytes.{Bytes}
 use Rattle.forms.proofs.Sections.{section_go, section_stop, entry_got, entry_bad, entries_got}
@@ -20,8 +22,8 @@ returns-in_err-count c =
     let p = err_from_is_err_and c.from_residual.result c.from_residual.ensures.1 in
     rw (p.1, p.2) (record { is = sym (section_stop s a.bytes.now a.start _ _ (sym c.in_err-count.ensures.is)); counted = tt })
 
-pub loop-i-init : goal.loop-i-init
-loop-i-init c =
+pub loop-entry-init : goal.loop-entry-init
+loop-entry-init c =
     let a = c.args in
     let s = numbers a.limit (number_of a.miscount) (number_of a.disorder) in
     record { above = λ v. sym (leb-zero v); rest = section_go s a.bytes.now a.start _ _ (sym c.in_ok-count.ensures.is) }
@@ -29,34 +31,44 @@ loop-i-init c =
 pub returns-in_err-n : goal.returns-in_err-n
 returns-in_err-n c =
     let a = c.args in
-    let l = c.loop-i in
+    let l = c.loop-entry in
     let s = numbers a.limit (number_of a.miscount) (number_of a.disorder) in
     let bytes : Bytes a.bytes.now = λ i. omega (arith, c.type_inv.bytes i) in
-    let rising = rising-piece 1 (number_of a.disorder) a.bytes.now l.at l.least (take l.i l.into) bytes l.invariant.above in
+    let rising = rising-piece 1 (number_of a.disorder) a.bytes.now l.at l.least (take l.entry-index l.entry-items) bytes l.invariant.above in
+    let long = length-take-le c.in_ok-count.count a.into.now (omega (arith, c.in_ok-count.ensures.most)) in
     let p = err_from_is_err_and c.from_residual-in_err-n.result c.from_residual-in_err-n.ensures.1 in
     rw (p.1, p.2)
-    (record { is = entry_bad s a.bytes.now _ l.i l.into l.at _ l.invariant.rest _ _ c.loop-i-test.true (c.in_err-n.ensures.is ∙ rising); counted = tt })
+    (record {
+      is = entry_bad s a.bytes.now _ l.entry-index l.entry-items l.at _ l.invariant.rest _ _ (omega (arith, long)) (c.in_err-n.ensures.is ∙ rising);
+      counted = tt;
+    })
 
-pub loop-i-preserved : goal.loop-i-preserved
-loop-i-preserved c =
+pub loop-entry-preserved : goal.loop-entry-preserved
+loop-entry-preserved c =
     let a = c.args in
-    let l = c.loop-i in
+    let l = c.loop-entry in
     let s = numbers a.limit (number_of a.miscount) (number_of a.disorder) in
     let bytes : Bytes a.bytes.now = λ i. omega (arith, c.type_inv.bytes i) in
-    let rising = rising-piece 1 (number_of a.disorder) a.bytes.now l.at l.least (take l.i l.into) bytes l.invariant.above in
-    let room : l.i < length l.into = omega (arith, c.in_ok-count.ensures.most) in
+    let rising = rising-piece 1 (number_of a.disorder) a.bytes.now l.at l.least (take l.entry-index l.entry-items) bytes l.invariant.above in
+    let long = length-take-le c.in_ok-count.count a.into.now (omega (arith, c.in_ok-count.ensures.most)) in
+    let room : l.entry-index < length l.entry-items = omega arith in
     record {
-      above = least_more l.into l.i c.in_ok-n.n room;
-      rest = entry_got s a.bytes.now _ l.i l.into l.at _ l.invariant.rest _ _ c.loop-i-test.true room (c.in_ok-n.ensures.is ∙ rising);
+      above = least_more l.entry-items l.entry-index c.in_ok-n.n room;
+      rest = entry_got s a.bytes.now _ l.entry-index l.entry-items l.at _ l.invariant.rest _ _ (omega (arith, long)) room
+          (c.in_ok-n.ensures.is ∙ rising);
     }
 
 pub returns : goal.returns
 returns c =
     let a = c.args in
-    let l = c.loop-i in
+    let l = c.loop-entry in
     let s = numbers a.limit (number_of a.miscount) (number_of a.disorder) in
     let most = c.in_ok-count.ensures.most in
+    let count = c.in_ok-count.count in
+    let long = length-take-le count a.into.now (omega (arith, most)) in
+    let all : count ≤ length l.entry-items = omega (arith, long) in
+    let held : take count (l.entry-items ++ drop count a.into.now) ≡ take count l.entry-items = take-append-le count l.entry-items _ all in
     record {
-      is = entries_got s a.bytes.now c.in_ok-count.count l.i l.into l.at _ l.invariant.rest (omega arith);
-      counted = (most, length-take-le c.in_ok-count.count l.into (omega (arith, most)));
+      is = rw held (entries_got s a.bytes.now count l.entry-index l.entry-items l.at _ l.invariant.rest (omega (arith, long)));
+      counted = (most, rw held (length-take-le count l.entry-items all));
     }

@@ -9,9 +9,10 @@ use Rattle.plans.specs.Faults.{number_of}
 use Rattle.plans.specs.Reader.{above, numbers}
 use Rattle.plans.proofs.read_numbers.Given as goal
 
-abbrev pub invariant-loop-i : goal.invariant-loop-i
-invariant-loop-i l =
+abbrev pub invariant-loop-entry : goal.invariant-loop-entry
+invariant-loop-entry l =
     record {
-      above : (v : ℕ) → above (take l.i l.into) v ≡ leb l.least v;
-      rest : (let s = numbers l.limit (number_of l.fn.miscount) (number_of l.disorder) in entries s (l.count - l.i) (take l.i l.into) l.bytes l.at ≡ section s l.bytes l.start);
+      above : (v : ℕ) → above (take l.entry-index l.entry-items) v ≡ leb l.least v;
+      rest : (let s = numbers l.limit (number_of l.fn.miscount) (number_of l.disorder) in
+          entries s (l.count - l.entry-index) (take l.entry-index l.entry-items) l.bytes l.at ≡ section s l.bytes l.start);
     }
