@@ -48,12 +48,6 @@ impl Node {
     const WIDTH: usize = 8;
 }
 
-const MAX_LOGGERS: u64 = 8;
-
-const MAX_KINDS: u64 = 32;
-
-const MAX_NODES: u64 = 16;
-
 // Why a plan is turned back, by document 01's number.
 #[derive(Clone, Copy, PartialEq, Eq)]
 pub enum PlanFault {
@@ -165,14 +159,12 @@ fn read_numbers(
     bytes: &[u8],
     start: usize,
     into: &mut [u16],
-    limit: u64,
     miscount: PlanFault,
     disorder: PlanFault,
 ) -> Reading<usize>
-    requires { limit ≤ length into.old }
-    ensures { Filled (numbers limit (number_of miscount) (number_of disorder)) bytes.now start result into.new }
+    ensures { Filled (numbers (length into.old) (number_of miscount) (number_of disorder)) bytes.now start result into.new }
 {
-    let (count, mut at) = read_number(bytes, start, 2, 1, limit, miscount)?;
+    let (count, mut at) = read_number(bytes, start, 2, 1, into.len() as u64, miscount)?;
     let count = count as usize;
     let mut least: u64 = 0;
     for entry in &mut into[..count] {
@@ -191,7 +183,6 @@ fn read_loggers(bytes: &[u8], start: usize, into: &mut Loggers) -> Reading<usize
         bytes,
         start,
         into,
-        MAX_LOGGERS,
         PlanFault::LoggerCount,
         PlanFault::LoggerNumber,
     )
@@ -204,7 +195,6 @@ fn read_kinds(bytes: &[u8], start: usize, into: &mut Kinds) -> Reading<usize>
         bytes,
         start,
         into,
-        MAX_KINDS,
         PlanFault::KindCount,
         PlanFault::KindNumber,
     )
@@ -318,10 +308,10 @@ fn read_nodes(bytes: &[u8], start: usize, kinds: usize, into: &mut Nodes) -> Rea
     ensures filled { Filled (nodes kinds) bytes.now start result (map node_of into.new) }
     ensures slotted { IfOk result (λ r. Slotted r.0 into.new) }
 {
-    let (count, mut at) = read_number(bytes, start, 2, 1, MAX_NODES, PlanFault::NodeCount)?;
+    let (count, mut at) = read_number(bytes, start, 2, 1, into.len() as u64, PlanFault::NodeCount)?;
     let count = count as usize;
-    for i in 0..count {
-        at = read_node(bytes, at, kinds, i, &mut into[i])?;
+    for (place, row) in into[..count].iter_mut().enumerate() {
+        at = read_node(bytes, at, kinds, place, row)?;
     }
     Ok((count, at))
 }

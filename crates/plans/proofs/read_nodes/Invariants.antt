@@ -2,16 +2,15 @@
 use mathlib.Core.Path.{◌≡◌}
 use mathlib.Core.List.{map}
 use Prim.Native.Nat.{◌-◌}
-use lib.ListN.{length, take}
+use lib.ListN.{take}
 use Rattle.forms.specs.Sections.{entries, section}
 use Rattle.plans.specs.Reader.{nodes}
 use Rattle.plans.specs.Views.{Slotted, node_of}
 use Rattle.plans.proofs.read_nodes.Given as goal
 
-abbrev pub invariant-loop-i : goal.invariant-loop-i
-invariant-loop-i l =
+abbrev pub invariant-loop-place : goal.invariant-loop-place
+invariant-loop-place l =
     record {
-      long : length l.into ≡ 16;
-      rest : entries (nodes l.kinds) (l.count - l.i) (take l.i (map node_of l.into)) l.bytes l.at ≡ section (nodes l.kinds) l.bytes l.start;
-      slotted : Slotted l.i l.into;
+      rest : entries (nodes l.kinds) (l.count - l.place) (take l.place (map node_of l.row-items)) l.bytes l.at ≡ section (nodes l.kinds) l.bytes l.start;
+      slotted : Slotted l.place l.row-items;
     }

@@ -18,21 +18,21 @@ use Rattle.plans.proofs.read_numbers.Goals as goal
 pub returns-in_err-count : goal.returns-in_err-count
 returns-in_err-count c =
     let a = c.args in
-    let s = numbers a.limit (number_of a.miscount) (number_of a.disorder) in
+    let s = numbers (length a.into.now) (number_of a.miscount) (number_of a.disorder) in
     let p = err_from_is_err_and c.from_residual.result c.from_residual.ensures.1 in
     rw (p.1, p.2) (record { is = sym (section_stop s a.bytes.now a.start _ _ (sym c.in_err-count.ensures.is)); counted = tt })
 
 pub loop-entry-init : goal.loop-entry-init
 loop-entry-init c =
     let a = c.args in
-    let s = numbers a.limit (number_of a.miscount) (number_of a.disorder) in
+    let s = numbers (length a.into.now) (number_of a.miscount) (number_of a.disorder) in
     record { above = λ v. sym (leb-zero v); rest = section_go s a.bytes.now a.start _ _ (sym c.in_ok-count.ensures.is) }
 
 pub returns-in_err-n : goal.returns-in_err-n
 returns-in_err-n c =
     let a = c.args in
     let l = c.loop-entry in
-    let s = numbers a.limit (number_of a.miscount) (number_of a.disorder) in
+    let s = numbers (length a.into.now) (number_of a.miscount) (number_of a.disorder) in
     let bytes : Bytes a.bytes.now = λ i. omega (arith, c.type_inv.bytes i) in
     let rising = rising-piece 1 (number_of a.disorder) a.bytes.now l.at l.least (take l.entry-index l.entry-items) bytes l.invariant.above in
     let long = length-take-le c.in_ok-count.count a.into.now (omega (arith, c.in_ok-count.ensures.most)) in
@@ -47,7 +47,7 @@ pub loop-entry-preserved : goal.loop-entry-preserved
 loop-entry-preserved c =
     let a = c.args in
     let l = c.loop-entry in
-    let s = numbers a.limit (number_of a.miscount) (number_of a.disorder) in
+    let s = numbers (length a.into.now) (number_of a.miscount) (number_of a.disorder) in
     let bytes : Bytes a.bytes.now = λ i. omega (arith, c.type_inv.bytes i) in
     let rising = rising-piece 1 (number_of a.disorder) a.bytes.now l.at l.least (take l.entry-index l.entry-items) bytes l.invariant.above in
     let long = length-take-le c.in_ok-count.count a.into.now (omega (arith, c.in_ok-count.ensures.most)) in
@@ -62,7 +62,7 @@ pub returns : goal.returns
 returns c =
     let a = c.args in
     let l = c.loop-entry in
-    let s = numbers a.limit (number_of a.miscount) (number_of a.disorder) in
+    let s = numbers (length a.into.now) (number_of a.miscount) (number_of a.disorder) in
     let most = c.in_ok-count.ensures.most in
     let count = c.in_ok-count.count in
     let long = length-take-le count a.into.now (omega (arith, most)) in
