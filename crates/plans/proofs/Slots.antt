@@ -1,6 +1,6 @@
 -- Slots: what the code puts in a node's row gives the node back, if it has no fault.
 use mathlib.Core.Bool.{true, false, true≢false}
-use mathlib.Core.List.{List, [], ◌++◌}
+use mathlib.Core.List.{List, []}
 use mathlib.Core.Logic.{⊎_elim}
 use mathlib.Core.Path.{◌≡◌, refl, sym, ◌∙◌}
 use Prim.Native.Nat.{ℕ, zero, suc, ◌+◌, ◌-◌, ◌≤◌, ◌<◌}
@@ -9,7 +9,6 @@ use native.Mathlib.Omega.{arith}
 use borrow.Author.Tests.{eq-eqb, ne_eqb, le-leb, lt-leb, le-ltb, lt-ltb}
 use lib.ListN.{get_or, length, set}
 use lib.Seq.{get_or-set_other, get_or-set_same}
-use Rattle.std.proofs.lemmas.List.{get_or_append_left}
 use Rattle.plans.specs.Reader.{is_input, node_fault}
 use Rattle.plans.specs.Views.{RowOf, SlotOf, Slotted, SlotsBelow, input_from, node_of, slot_at}
 use Rattle.plans.specs.declared.Node.{Node}
@@ -95,11 +94,6 @@ slotted-more i rows row fits before now k h = elim (ℕ_discrete k i) [
   | yes e ↦ rw (e, get_or-set_same rows i row [] fits) now
   | no d ↦ rw (get_or-set_other rows i k row [] d) (before k (omega arith))
 ]
-
--- with other rows after them
-pub slotted-append : (n : ℕ) (rows more : List (List ℕ)) → n ≤ length rows → Slotted n rows → Slotted n (rows ++ more)
-unfolding Slotted
-slotted-append n rows more fits s k h = let in_rows : k < length rows = omega arith in rw get_or_append_left (s k h)
 
 pub slotted-at : (n : ℕ) (rows : List (List ℕ)) → Slotted n rows → (k : ℕ) → k < n → SlotsBelow k (get_or rows k [])
 unfolding Slotted

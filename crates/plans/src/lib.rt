@@ -7,13 +7,13 @@ ghost use Rattle.forms.specs.Forms.{number};
 ghost use Rattle.forms.specs.Sections.{got, outside, piece, section, then};
 ghost use Rattle.plans.specs.Faults.{number_of};
 ghost use Rattle.plans.specs.Layout.{node};
-ghost use Rattle.plans.specs.Reader.{clocks, numbers, loggers, kinds, nodes, is_third, node_fault, read_plan};
+ghost use Rattle.plans.specs.Reader.{clocks, numbers, nodes, is_third, node_fault, read_plan};
 ghost use Rattle.plans.specs.Views.{Filled, RowOf, SlotOf, Slotted, SlotsBelow, answer_of, judged_as, node_of, read_as, refused_as};
 
 use forms::NumberFault;
 use timestamps::Timestamp;
 
-// A node entry, with the numbers of the file.
+// A node entry, with the numbers of the file: no enums, since it is judged once it is read, and the definitions judge it by number.
 #[derive(Clone, Copy, PartialEq, Eq, Default)]
 pub struct Node {
     pub operator: u64,
@@ -106,7 +106,8 @@ const LEFT: usize = 2;
 const MIDDLE: usize = 3;
 
 const THIRD: usize = 4;
-// An input's slot is the place of a kind, or NODE_SLOTS and the place of an earlier node; NO_SLOT where there is none.
+// An input's slot is the place of a kind, or NODE_SLOTS and the place of an earlier node; NO_SLOT where there is none: no Option,
+// since a row holds that slot too, as `SlotOf` has it.
 const NO_SLOT: u16 = 33;
 
 const NODE_SLOTS: u16 = 34;
@@ -155,16 +156,16 @@ fn read_clocks(bytes: &[u8], start: usize) -> Reading<u64>
 }
 
 // ---- loggers and kinds: numbers, each above the one before
-fn read_numbers(
+fn read_numbers<const N: usize>(
     bytes: &[u8],
     start: usize,
-    into: &mut [u16],
+    into: &mut [u16; N],
     miscount: PlanFault,
     disorder: PlanFault,
 ) -> Reading<usize>
-    ensures { Filled (numbers (length into.old) (number_of miscount) (number_of disorder)) bytes.now start result into.new }
+    ensures { Filled (numbers N (number_of miscount) (number_of disorder)) bytes.now start result into.new }
 {
-    let (count, mut at) = read_number(bytes, start, 2, 1, into.len() as u64, miscount)?;
+    let (count, mut at) = read_number(bytes, start, 2, 1, N as u64, miscount)?;
     let count = count as usize;
     let mut least: u64 = 0;
     for entry in &mut into[..count] {
@@ -174,30 +175,6 @@ fn read_numbers(
         at = next;
     }
     Ok((count, at))
-}
-
-fn read_loggers(bytes: &[u8], start: usize, into: &mut Loggers) -> Reading<usize>
-    ensures { Filled loggers bytes.now start result into.new }
-{
-    read_numbers(
-        bytes,
-        start,
-        into,
-        PlanFault::LoggerCount,
-        PlanFault::LoggerNumber,
-    )
-}
-
-fn read_kinds(bytes: &[u8], start: usize, into: &mut Kinds) -> Reading<usize>
-    ensures { Filled kinds bytes.now start result into.new }
-{
-    read_numbers(
-        bytes,
-        start,
-        into,
-        PlanFault::KindCount,
-        PlanFault::KindNumber,
-    )
 }
 
 // ---- nodes
@@ -289,7 +266,7 @@ fn read_node(
     requires { (kinds ≤ 32) × (place < 16) }
     ensures { MatchResult result
         (λ next. (got (node_of row.new) next ≡ piece node (number_of PlanFault.CutShort) (node_fault kinds place) bytes.now at)
-            × SlotsBelow place row.new)
+        × SlotsBelow place row.new)
         (λ r. refused_as r ≡ piece node (number_of PlanFault.CutShort) (node_fault kinds place) bytes.now at) }
 {
     if forms::left(bytes, at) < Node::WIDTH {
@@ -310,8 +287,9 @@ fn read_nodes(bytes: &[u8], start: usize, kinds: usize, into: &mut Nodes) -> Rea
 {
     let (count, mut at) = read_number(bytes, start, 2, 1, into.len() as u64, PlanFault::NodeCount)?;
     let count = count as usize;
-    for (place, row) in into[..count].iter_mut().enumerate() {
-        at = read_node(bytes, at, kinds, place, row)?;
+    // By index: each turn needs the place itself and the row there.
+    for place in 0..count {
+        at = read_node(bytes, at, kinds, place, &mut into[place])?;
     }
     Ok((count, at))
 }
@@ -329,8 +307,20 @@ pub fn read_plan(
     ensures slotted { IfOk result (λ r. Slotted r.node_count nodes.new) }
 {
     let (ratio, at) = read_clocks(bytes, 0)?;
-    let (logger_count, at) = read_loggers(bytes, at, loggers)?;
-    let (kind_count, at) = read_kinds(bytes, at, kinds)?;
+    let (logger_count, at) = read_numbers(
+        bytes,
+        at,
+        loggers,
+        PlanFault::LoggerCount,
+        PlanFault::LoggerNumber,
+    )?;
+    let (kind_count, at) = read_numbers(
+        bytes,
+        at,
+        kinds,
+        PlanFault::KindCount,
+        PlanFault::KindNumber,
+    )?;
     let (node_count, at) = read_nodes(bytes, at, kind_count, nodes)?;
     if at < bytes.len() {
         return Err(PlanFault::BytesRemain.at(at));

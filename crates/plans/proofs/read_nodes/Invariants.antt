@@ -2,7 +2,7 @@
 use mathlib.Core.Path.{◌≡◌}
 use mathlib.Core.List.{map}
 use Prim.Native.Nat.{◌-◌}
-use lib.ListN.{take}
+use lib.ListN.{length, take}
 use Rattle.forms.specs.Sections.{entries, section}
 use Rattle.plans.specs.Reader.{nodes}
 use Rattle.plans.specs.Views.{Slotted, node_of}
@@ -11,6 +11,7 @@ use Rattle.plans.proofs.read_nodes.Given as goal
 abbrev pub invariant-loop-place : goal.invariant-loop-place
 invariant-loop-place l =
     record {
-      rest : entries (nodes l.kinds) (l.count - l.place) (take l.place (map node_of l.row-items)) l.bytes l.at ≡ section (nodes l.kinds) l.bytes l.start;
-      slotted : Slotted l.place l.row-items;
+      long : length l.into ≡ 16;
+      rest : entries (nodes l.kinds) (l.count - l.place) (take l.place (map node_of l.into)) l.bytes l.at ≡ section (nodes l.kinds) l.bytes l.start;
+      slotted : Slotted l.place l.into;
     }

@@ -16,23 +16,23 @@ use Rattle.plans.proofs.Sections.{least_more, rising-piece}
 use Rattle.plans.proofs.read_numbers.Goals as goal
 
 pub returns-in_err-count : goal.returns-in_err-count
-returns-in_err-count c =
+returns-in_err-count g c =
     let a = c.args in
-    let s = numbers (length a.into.now) (number_of a.miscount) (number_of a.disorder) in
+    let s = numbers g.row.N (number_of a.miscount) (number_of a.disorder) in
     let p = err_from_is_err_and c.from_residual.result c.from_residual.ensures.1 in
     rw (p.1, p.2) (record { is = sym (section_stop s a.bytes.now a.start _ _ (sym c.in_err-count.ensures.is)); counted = tt })
 
 pub loop-entry-init : goal.loop-entry-init
-loop-entry-init c =
+loop-entry-init g c =
     let a = c.args in
-    let s = numbers (length a.into.now) (number_of a.miscount) (number_of a.disorder) in
+    let s = numbers g.row.N (number_of a.miscount) (number_of a.disorder) in
     record { above = λ v. sym (leb-zero v); rest = section_go s a.bytes.now a.start _ _ (sym c.in_ok-count.ensures.is) }
 
 pub returns-in_err-n : goal.returns-in_err-n
-returns-in_err-n c =
+returns-in_err-n g c =
     let a = c.args in
     let l = c.loop-entry in
-    let s = numbers (length a.into.now) (number_of a.miscount) (number_of a.disorder) in
+    let s = numbers g.row.N (number_of a.miscount) (number_of a.disorder) in
     let bytes : Bytes a.bytes.now = λ i. omega (arith, c.type_inv.bytes i) in
     let rising = rising-piece 1 (number_of a.disorder) a.bytes.now l.at l.least (take l.entry-index l.entry-items) bytes l.invariant.above in
     let long = length-take-le c.in_ok-count.count a.into.now (omega (arith, c.in_ok-count.ensures.most)) in
@@ -44,10 +44,10 @@ returns-in_err-n c =
     })
 
 pub loop-entry-preserved : goal.loop-entry-preserved
-loop-entry-preserved c =
+loop-entry-preserved g c =
     let a = c.args in
     let l = c.loop-entry in
-    let s = numbers (length a.into.now) (number_of a.miscount) (number_of a.disorder) in
+    let s = numbers g.row.N (number_of a.miscount) (number_of a.disorder) in
     let bytes : Bytes a.bytes.now = λ i. omega (arith, c.type_inv.bytes i) in
     let rising = rising-piece 1 (number_of a.disorder) a.bytes.now l.at l.least (take l.entry-index l.entry-items) bytes l.invariant.above in
     let long = length-take-le c.in_ok-count.count a.into.now (omega (arith, c.in_ok-count.ensures.most)) in
@@ -59,10 +59,10 @@ loop-entry-preserved c =
     }
 
 pub returns : goal.returns
-returns c =
+returns g c =
     let a = c.args in
     let l = c.loop-entry in
-    let s = numbers (length a.into.now) (number_of a.miscount) (number_of a.disorder) in
+    let s = numbers g.row.N (number_of a.miscount) (number_of a.disorder) in
     let most = c.in_ok-count.ensures.most in
     let count = c.in_ok-count.count in
     let long = length-take-le count a.into.now (omega (arith, most)) in

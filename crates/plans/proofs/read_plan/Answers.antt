@@ -1,6 +1,4 @@
 -- `plans::read_plan`: the four sections in turn, each read from where the one before it ends.
-use mathlib.Core.List.{map}
-use mathlib.Core.Path.{sym}
 use borrow.Author.Tests.{lt-ltb, le-ltb}
 use Rattle.std.proofs.lemmas.Result.{err_from_is_err_and}
 use Rattle.sequences.proofs.Arrays.{map-take}
@@ -38,7 +36,12 @@ unfolding read_plan plan_at
 returns-then-at-bytes-clause-answer c =
     let kinds = c.in_ok-kind_count.ensures in
     rw (
-      c.at.ensures, ← c.in_ok-ratio.ensures, ← c.in_ok-logger_count.ensures.is, ← kinds.is, kinds.counted.1, ← c.in_ok-node_count.ensures.filled.is,
+      c.at.ensures,
+      ← c.in_ok-ratio.ensures,
+      ← c.in_ok-logger_count.ensures.is,
+      ← kinds.is,
+      kinds.counted.1,
+      ← c.in_ok-node_count.ensures.filled.is,
       lt-ltb _ _ c.if-at-bytes.true,
     )
 
@@ -47,6 +50,11 @@ unfolding read_plan plan_at
 returns-clause-answer c =
     let kinds = c.in_ok-kind_count.ensures in
     rw (
-      ← c.in_ok-ratio.ensures, ← c.in_ok-logger_count.ensures.is, ← kinds.is, kinds.counted.1, ← c.in_ok-node_count.ensures.filled.is,
-      le-ltb _ _ c.if-at-bytes.false, map-take node_of c.in_ok-node_count.node_count c.read_nodes.new.into,
+      ← c.in_ok-ratio.ensures,
+      ← c.in_ok-logger_count.ensures.is,
+      ← kinds.is,
+      kinds.counted.1,
+      ← c.in_ok-node_count.ensures.filled.is,
+      le-ltb _ _ c.if-at-bytes.false,
+      map-take node_of c.in_ok-node_count.node_count c.read_nodes.new.into,
     )
