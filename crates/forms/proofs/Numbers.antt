@@ -6,11 +6,11 @@ use native.Mathlib.Numerals.{add-one}
 use native.Mathlib.Omega.{arith}
 use native.Mathlib.Nat.{mod-one, mul_comm, pow-suc, pow-le-pow_right, mod-lt, mod-eq_of_lt, div-eq_of_lt, mul-add-div_right, mul-add-mod_self_right, mul-le-mul_right, add-zero, mul_assoc, add-mul}
 use lib.ListN.{length, get_or, take, drop, length-append, length-drop}
-use lib.Seq.{length-take-le, take-add, drop-drop, get_or-drop, drop-cons}
+use lib.Seq.{length-take-le, get_or-drop, take-suc}
 use lib.Dec.{lit<}
 use lib.Pow.{pow-add}
 use lib.Arith.{mod-mul}
-use Rattle.forms.specs.Bytes.{big_endian, value_of, value_at, Bytes}
+use Rattle.forms.specs.Bytes.{big_endian, value_of, Bytes}
 
 pub positive : (w : ℕ) → 0 < 256 ^ w
 positive zero = lit< tt
@@ -89,23 +89,13 @@ bytes-append [] c h k i = k i
 bytes-append (x ∷ a) c h k zero = h 0
 bytes-append (x ∷ a) c h k (suc i) = bytes-append a c (λ j. h (suc j)) k i
 
-module _ (b : List ℕ) (at : ℕ) where
-  pub length_part : (n : ℕ) → at + n ≤ length b → length (take n (drop at b)) ≡ n
-  length_part n h = let k : n ≤ length (drop at b) = omega (arith, length-drop at b) in length-take-le n (drop at b) k
+pub length_part : (b : List ℕ) (at n : ℕ) → at + n ≤ length b → length (take n (drop at b)) ≡ n
+length_part b at n h = let k : n ≤ length (drop at b) = omega (arith, length-drop at b) in length-take-le n (drop at b) k
 
-  -- a read of n + m bytes is a read of n and one of m
-  value_parts : (n m : ℕ) → at + n + m ≤ length b → value_at (n + m) b at ≡ value_at n b at * 256 ^ m + value_at m b (at + n)
-  value_parts n m h =
-      let k : m ≤ length (drop (at + n) b) = omega (arith, length-drop (at + n) b) in
-      rw (take-add n m (drop at b), drop-drop n at b, value-append (take n (drop at b)) (take m (drop (at + n) b)), length-take-le m (drop (at + n) b) k)
-
-  value_one : at + 1 ≤ length b → value_at 1 b at ≡ get_or b at 0
-  unfolding value_of
-  value_one h = let k : at < length b = omega arith in rw (drop-cons b at 0 k) (omega arith)
-
--- ---- a loop that reads a byte a turn
-pub value-more : (b : List ℕ) (at i : ℕ) → at + i < length b → value_at (i + 1) b at ≡ value_at i b at * 256 + get_or b (at + i) 0
-value-more b at i h = value_parts b at i 1 (omega arith) ∙ rw (value_one b (at + i) (omega arith))
+-- ---- a loop over bytes
+pub value-more : (l : List ℕ) (i : ℕ) → i < length l → value_of (take (i + 1) l) ≡ value_of (take i l) * 256 + get_or l i 0
+unfolding value_of
+value-more l i h = rw (add-one, take-suc l i 0 h, value-append (take i l) (get_or l i 0 ∷ [])) (omega arith)
 
 pub bound_more : (i v x : ℕ) → v < 256 ^ i → x < 256 → v * 256 + x < 256 ^ (i + 1)
 bound_more i v x h k = rw add-one (omega (arith, pow-suc 256 i))

@@ -12,7 +12,8 @@ use Rattle.forms.specs.Bytes.{value_at}
 use Rattle.forms.specs.Forms.{Form, number}
 use Rattle.forms.specs.Sections.{unless, within, outside, Read, got, bad, then, judged, piece}
 use Rattle.forms.specs.Views.{number_read, read_of, seen}
-use Rattle.forms.specs.declared.NumberRead.TheVariants.{CutShort, Outside, Value}
+use Rattle.std.specs.declared.result.Result.TheVariants.{Ok, Err}
+use Rattle.forms.specs.declared.NumberFault.TheVariants.{CutShort, Outside}
 
 -- ---- tests
 -- no fault: the test holds, and what follows has none
@@ -104,6 +105,9 @@ module _ {A : Type 0} (f : Form A) (cut : ℕ) (fault : A → ℕ) (b : List ℕ
   pub piece_is : (a : A) → at + f.width ≤ length b → f.value b at ≡ a → fault a ≡ 0 → piece f cut fault b at ≡ got a (at + f.width)
   piece_is a h e k = piece-judged h ∙ rw (e, k)
 
+  pub piece_wrong : (a : A) → at + f.width ≤ length b → f.value b at ≡ a → 0 < fault a → piece f cut fault b at ≡ bad (fault a) at
+  piece_wrong a h e k = let some = ne_eqb (fault a) 0 (omega arith) in piece-judged h ∙ rw (e, some)
+
   -- as a reader gives them
   pub seen_right : (a : A) → at + f.width ≤ length b → a ≡ f.value b at → eqb (fault a) 0 ≡ true → seen 0 a (at + f.width) ≡ piece f cut fault b at
   unfolding seen
@@ -127,15 +131,15 @@ piece-same f cut g h b at e = go (leb (at + f.width) (length b)) refl
 
 -- ---- a number from low to high
 module _ (w low high : ℕ) (b : List ℕ) (at : ℕ) where
-  pub number_short : length b < at + w → CutShort ≡ number_read w low high b at
+  pub number_short : length b < at + w → Err CutShort ≡ number_read w low high b at
   unfolding number_read
   number_short h = rw (lt-leb _ _ h)
 
-  pub number_out : at + w ≤ length b → within low high (value_at w b at) ≡ false → Outside ≡ number_read w low high b at
+  pub number_out : at + w ≤ length b → within low high (value_at w b at) ≡ false → Err Outside ≡ number_read w low high b at
   unfolding number_read
   number_out h k = rw (le-leb _ _ h, k)
 
-  pub number_in : (v : ℕ) → at + w ≤ length b → v ≡ value_at w b at → within low high v ≡ true → Value v ≡ number_read w low high b at
+  pub number_in : (v : ℕ) → at + w ≤ length b → v ≡ value_at w b at → within low high v ≡ true → Ok v ≡ number_read w low high b at
   unfolding number_read
   number_in v h e k = rw (le-leb _ _ h, ← e, k)
 
@@ -145,19 +149,19 @@ module _ (w low high : ℕ) (b : List ℕ) (at : ℕ) where
   number-piece cut wrong p = go (leb (at + w) (length b)) (within low high (value_at w b at)) (ne_eqb wrong 0 (omega arith))
     where
       go : (t u : Bool) → eqb wrong 0 ≡ false
-          → read_of cut wrong w at (pick t (pick u (Value (value_at w b at)) Outside) CutShort)
+          → read_of cut wrong w at (pick t (pick u (Ok (value_at w b at)) (Err Outside)) (Err CutShort))
           ≡ pick t (pick (eqb (pick u 0 wrong) 0) (got (value_at w b at) (at + w)) (bad (pick u 0 wrong) at)) (bad cut at)
       go true true z = refl
       go true false z = rw z
       go false u z = refl
 
   -- what is known of a value that was read
-  pub number-value : (v : ℕ) → number_read w low high b at ≡ Value v → (at + w ≤ length b) × (low ≤ v) × (v ≤ high)
+  pub number-value : (v : ℕ) → number_read w low high b at ≡ Ok v → (at + w ≤ length b) × (low ≤ v) × (v ≤ high)
   unfolding number_read
   number-value v h = go (leb (at + w) (length b)) refl (within low high (value_at w b at)) refl h
     where
       go : (t : Bool) → leb (at + w) (length b) ≡ t → (u : Bool) → within low high (value_at w b at) ≡ u
-          → pick t (pick u (Value (value_at w b at)) Outside) CutShort ≡ Value v → (at + w ≤ length b) × (low ≤ v) × (v ≤ high)
+          → pick t (pick u (Ok (value_at w b at)) (Err Outside)) (Err CutShort) ≡ Ok v → (at + w ≤ length b) × (low ≤ v) × (v ≤ high)
       go true e true k h =
           let s : value_at w b at ≡ v = cc in
           let r = within_of low high v (rw s at k) in

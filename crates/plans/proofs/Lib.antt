@@ -1,7 +1,7 @@
 pub mod Examples
+pub mod Faults
 pub mod Limits
 pub mod Sections
 pub mod Slots
 pub mod Theorems
-pub mod Whole
 pub mod First

@@ -1,10 +1,9 @@
 -- The faults of a plan file by the numbers of document 01, with request Q-2.
 use Rattle.std.specs.Prelude.{◌≡◌, ◌⊎◌, ℕ, ◌≤◌}
 use Rattle.plans.specs.declared.PlanFault.{PlanFault}
-use Rattle.plans.specs.declared.PlanFault.TheVariants.{None, CutShort, ClockCount, Ratio, LoggerCount, LoggerNumber, KindCount, KindNumber, NodeCount, Operator, Context, Input, ThirdInput, BytesRemain}
+use Rattle.plans.specs.declared.PlanFault.TheVariants.{CutShort, ClockCount, Ratio, LoggerCount, LoggerNumber, KindCount, KindNumber, NodeCount, Operator, Context, Input, ThirdInput, BytesRemain}
 
 abbrev pub number_of : PlanFault → ℕ
-number_of None = 0
 number_of CutShort = 1
 number_of ClockCount = 2
 number_of Ratio = 3

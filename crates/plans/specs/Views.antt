@@ -1,14 +1,14 @@
 -- What the code's values stand for.
-use Rattle.std.specs.Prelude.{not, ◌≡◌, ℕ, ◌+◌, ◌-◌, ◌≤◌, ◌<◌, List, [], map, eqb, ltb, get_or, length, take}
+use Rattle.std.specs.Prelude.{not, ◌≡◌, ℕ, ◌+◌, ◌-◌, ◌≤◌, ◌<◌, List, [], map, eqb, ltb, get_or, length, take, Result, Ok, Err, IfOk}
 use Rattle.sequences.specs.Choice.{pick}
-use Rattle.forms.specs.Sections.{Section, section}
-use Rattle.forms.specs.Views.{seen}
+use Rattle.forms.specs.Sections.{Read, Section, bad, got, section, then}
 use Rattle.plans.specs.Faults.{number_of}
 use Rattle.plans.specs.Layout.{Plan}
-use Rattle.plans.specs.Reader.{PlanAnswer, is_input}
-use Rattle.plans.specs.declared.CountRead.{CountRead}
+use Rattle.plans.specs.Reader.{PlanAnswer, accepted, is_input, refused}
 use Rattle.plans.specs.declared.Node.{Node}
+use Rattle.plans.specs.declared.PlanFault.{PlanFault}
 use Rattle.plans.specs.declared.PlanRead.{PlanRead}
+use Rattle.plans.specs.declared.PlanRefusal.{PlanRefusal}
 
 -- ---- slots: where what arrives by an input is counted. Slot q for the kind at place q, from 0 to 32; slot 34 + p for what node p made; slot 33 for nothing
 -- the slot of an input of node k: only earlier nodes have made something
@@ -59,16 +59,26 @@ abbrev pub plan_of : ℕ → (loggers kinds : List ℕ) → (nodes : List (List 
 plan_of ratio loggers kinds nodes = record { ratio = ratio; loggers = loggers; kinds = kinds; nodes = map node_of nodes }
 
 -- with as many of each as are counted
-abbrev pub answer_of : PlanRead → (loggers kinds : List ℕ) → (nodes : List (List ℕ)) → PlanAnswer
-answer_of r loggers kinds nodes =
-    record {
-      number = number_of r.fault;
-      place = r.place;
-      plan = plan_of r.ratio (take r.logger_count loggers) (take r.kind_count kinds) (take r.node_count nodes);
-    }
+abbrev pub answer_of : Result PlanRead PlanRefusal → (loggers kinds : List ℕ) → (nodes : List (List ℕ)) → PlanAnswer
+answer_of (Ok r) loggers kinds nodes =
+    accepted (plan_of r.ratio (take r.logger_count loggers) (take r.kind_count kinds) (take r.node_count nodes))
+answer_of (Err r) loggers kinds nodes = refused (number_of r.fault) r.place
 
--- what reading a section gives, with as many as it counts in front of a list
-pub record Filled {A : Type 0} (s : Section A) (b : List ℕ) (start : ℕ) (r : CountRead) (l : List A) : Type 0 where
-  pub is : seen (number_of r.fault) (take r.count l) r.at ≡ section s b start
-  pub most : r.count ≤ s.most
-  pub holds : length (take r.count l) ≡ r.count
+-- ---- what the readers give
+abbrev pub refused_as : {A : Type 0} → PlanRefusal → Read A
+refused_as r = bad (number_of r.fault) r.place
+
+-- a value and the place after it
+abbrev pub read_as : {A : Type 0} → Result (A × ℕ) PlanRefusal → Read A
+read_as (Ok r) = got r.0 r.1
+read_as (Err r) = refused_as r
+
+-- the number of a fault, 0 for none
+abbrev pub judged_as : Result Unit PlanFault → ℕ
+judged_as (Ok u) = 0
+judged_as (Err fault) = number_of fault
+
+-- what reading a section gives, with as many as are counted in front of a list
+pub record Filled {A : Type 0} (s : Section A) (b : List ℕ) (start : ℕ) (r : Result (ℕ × ℕ) PlanRefusal) (l : List A) : Type 0 where
+  pub is : then (read_as r) (λ count next. got (take count l) next) ≡ section s b start
+  pub counted : IfOk r (λ n. (n.0 ≤ s.most) × (length (take n.0 l) ≡ n.0))

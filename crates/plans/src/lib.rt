@@ -2,20 +2,19 @@
 // with request Q-2.
 #![tactic(auto)]
 
-ghost use Rattle.std.specs.Prelude.{◌≡◌, ℕ, ◌+◌, ◌<◌, ◌≤◌, List, [], ◌∷◌, map, length, eqb};
+ghost use Rattle.std.specs.Prelude.{◌≡◌, ℕ, ◌+◌, ◌<◌, ◌≤◌, [], ◌∷◌, map, length, IfOk, MatchResult};
 ghost use Rattle.forms.specs.Forms.{number};
-ghost use Rattle.forms.specs.Sections.{outside, piece, section};
-ghost use Rattle.forms.specs.Views.{seen};
+ghost use Rattle.forms.specs.Sections.{got, outside, piece, section, then};
 ghost use Rattle.plans.specs.Faults.{number_of};
 ghost use Rattle.plans.specs.Layout.{node};
-ghost use Rattle.plans.specs.Limits.{no_node};
-ghost use Rattle.plans.specs.Reader.{clocks, numbers, loggers, kinds, nodes, is_third, node_fault, refused, read_plan};
-ghost use Rattle.plans.specs.Views.{Filled, RowOf, SlotOf, Slotted, SlotsBelow, answer_of, node_of};
+ghost use Rattle.plans.specs.Reader.{clocks, numbers, nodes, is_third, node_fault, read_plan};
+ghost use Rattle.plans.specs.Views.{Filled, RowOf, SlotOf, Slotted, SlotsBelow, answer_of, judged_as, node_of, read_as, refused_as};
 
+use forms::NumberFault;
 use timestamps::Timestamp;
 
-// A node entry, with the numbers of the file.
-#[derive(Clone, Copy)]
+// A node entry, with the numbers of the file: no enums, since it is judged once it is read, and the definitions judge it by number.
+#[derive(Clone, Copy, PartialEq, Eq, Default)]
 pub struct Node {
     pub operator: u64,
     pub context: u64,
@@ -47,44 +46,45 @@ impl Node {
     pub const NO_INPUT: u64 = 65535;
     // Its bytes in the file.
     const WIDTH: usize = 8;
+}
 
-    // Stands where there is none.
-    pub fn none() -> Self
-        ensures { result ≡ no_node }
+// Why a plan is turned back, by document 01's number.
+#[derive(Clone, Copy, PartialEq, Eq)]
+pub enum PlanFault {
+    CutShort = 1,
+    ClockCount = 2,
+    Ratio = 3,
+    LoggerCount = 4,
+    LoggerNumber = 5,
+    KindCount = 6,
+    KindNumber = 7,
+    NodeCount = 8,
+    Operator = 9,
+    Context = 10,
+    Input = 11,
+    BytesRemain = 12,
+    ThirdInput = 41,
+}
+
+impl PlanFault {
+    pub fn number(self) -> u64
+        ensures { result ≡ number_of self }
     {
-        Node {
-            operator: 0,
-            context: 0,
-            left: 0,
-            middle: 0,
-            third: 0,
-        }
+        self as u64
+    }
+
+    fn at(self, place: usize) -> PlanRefusal
+        ensures { result ≡ record { fault = self; place = place } }
+    {
+        PlanRefusal { fault: self, place }
     }
 }
 
-const MAX_LOGGERS: u64 = 8;
-
-const MAX_KINDS: u64 = 32;
-
-const MAX_NODES: u64 = 16;
-
-// Why a plan is turned back.
-#[derive(Clone, Copy)]
-pub enum PlanFault {
-    None,
-    CutShort,
-    ClockCount,
-    Ratio,
-    LoggerCount,
-    LoggerNumber,
-    KindCount,
-    KindNumber,
-    NodeCount,
-    Operator,
-    Context,
-    Input,
-    ThirdInput,
-    BytesRemain,
+// A plan that is turned back: why, and the place of the count or entry.
+#[derive(Clone, Copy, PartialEq, Eq)]
+pub struct PlanRefusal {
+    pub fault: PlanFault,
+    pub place: usize,
 }
 
 // What a plan is read into: its loggers' and its kinds' numbers, and a row for each node.
@@ -106,91 +106,25 @@ const LEFT: usize = 2;
 const MIDDLE: usize = 3;
 
 const THIRD: usize = 4;
-// An input's slot is the place of a kind, or NODE_SLOTS and the place of an earlier node; NO_SLOT where there is none.
+// An input's slot is the place of a kind, or NODE_SLOTS and the place of an earlier node; NO_SLOT where there is none: no Option,
+// since a row holds that slot too, as `SlotOf` has it.
 const NO_SLOT: u16 = 33;
 
 const NODE_SLOTS: u16 = 34;
 
 pub type Nodes = [NodeRow; 16];
 
-// A plan: its ratio, and how many loggers, kinds and nodes there are in front of the arrays that were lent; or its fault and
-// the place of the count or entry, with nothing counted.
-#[derive(Clone, Copy)]
+// A plan: its ratio, and how many loggers, kinds and nodes there are in front of the arrays that were lent.
+#[derive(Clone, Copy, PartialEq, Eq)]
 pub struct PlanRead {
-    pub fault: PlanFault,
-    pub place: usize,
     pub ratio: u64,
     pub logger_count: usize,
     pub kind_count: usize,
     pub node_count: usize,
 }
 
-// What reading a piece or a section gives: its fault, what was read or how many, and the place after it or of the fault.
-#[derive(Clone, Copy)]
-struct NumberRead {
-    fault: PlanFault,
-    value: u64,
-    at: usize,
-}
-
-#[derive(Clone, Copy)]
-struct NodeRead {
-    fault: PlanFault,
-    node: Node,
-    at: usize,
-}
-
-#[derive(Clone, Copy)]
-struct CountRead {
-    fault: PlanFault,
-    count: usize,
-    at: usize,
-}
-
-impl CountRead {
-    fn stopped(fault: PlanFault, at: usize) -> Self
-        ensures { result ≡ record { fault = fault; count = 0; at = at } }
-    {
-        CountRead {
-            fault,
-            count: 0,
-            at,
-        }
-    }
-}
-
-impl PlanFault {
-    pub fn is_none(self) -> bool
-        ensures { result ≡ eqb (number_of self) 0 }
-    {
-        match self {
-            PlanFault::None => true,
-            _ => false,
-        }
-    }
-
-    // Document 01's number of the fault, 0 for none.
-    pub fn number(self) -> u64
-        ensures { result ≡ number_of self }
-    {
-        match self {
-            PlanFault::None => 0,
-            PlanFault::CutShort => 1,
-            PlanFault::ClockCount => 2,
-            PlanFault::Ratio => 3,
-            PlanFault::LoggerCount => 4,
-            PlanFault::LoggerNumber => 5,
-            PlanFault::KindCount => 6,
-            PlanFault::KindNumber => 7,
-            PlanFault::NodeCount => 8,
-            PlanFault::Operator => 9,
-            PlanFault::Context => 10,
-            PlanFault::Input => 11,
-            PlanFault::ThirdInput => 41,
-            PlanFault::BytesRemain => 12,
-        }
-    }
-}
+// What is read, or how many of it, and the place after it.
+type Reading<T> = Result<(T, usize), PlanRefusal>;
 
 // A number from low to high, or the fault `wrong`.
 fn read_number(
@@ -200,113 +134,47 @@ fn read_number(
     low: u64,
     high: u64,
     wrong: PlanFault,
-) -> NumberRead
-    requires { (1 ≤ width) × (width ≤ 8) × (0 < number_of wrong) }
-    ensures { (seen (number_of result.fault) result.value result.at
-        ≡ piece (number width) (number_of PlanFault.CutShort) (outside low high (number_of wrong)) bytes.now at)
-        × (result.value ≤ high) }
+) -> Reading<u64>
+    requires { (1 ≤ width) × (width ≤ 8) }
+    ensures is { read_as result
+        ≡ piece (number width) (number_of PlanFault.CutShort) (outside low high (number_of wrong)) bytes.now at }
+    ensures most { IfOk result (λ r. r.0 ≤ high) }
 {
     match forms::read_number(bytes, at, width, low, high) {
-        forms::NumberRead::CutShort => NumberRead {
-            fault: PlanFault::CutShort,
-            value: 0,
-            at,
-        },
-        forms::NumberRead::Outside => NumberRead {
-            fault: wrong,
-            value: 0,
-            at,
-        },
-        forms::NumberRead::Value(value) => NumberRead {
-            fault: PlanFault::None,
-            value,
-            at: at + width,
-        },
+        Ok(value) => Ok((value, at + width)),
+        Err(NumberFault::CutShort) => Err(PlanFault::CutShort.at(at)),
+        Err(NumberFault::Outside) => Err(wrong.at(at)),
     }
 }
 
 // ---- clocks
-fn read_clocks(bytes: &[u8], start: usize) -> NumberRead
-    ensures { seen (number_of result.fault) (result.value ∷ []) result.at ≡ section clocks bytes.now start }
+fn read_clocks(bytes: &[u8], start: usize) -> Reading<u64>
+    ensures { then (read_as result) (λ ratio next. got (ratio ∷ []) next) ≡ section clocks bytes.now start }
 {
-    let count = read_number(bytes, start, 2, 1, 1, PlanFault::ClockCount);
-    let fault = count.fault;
-    if !fault.is_none() {
-        return count;
-    }
-    read_number(
-        bytes,
-        count.at,
-        4,
-        1,
-        Timestamp::MAX_RATIO,
-        PlanFault::Ratio,
-    )
+    let (_, at) = read_number(bytes, start, 2, 1, 1, PlanFault::ClockCount)?;
+    read_number(bytes, at, 4, 1, Timestamp::MAX_RATIO, PlanFault::Ratio)
 }
 
 // ---- loggers and kinds: numbers, each above the one before
-fn read_numbers(
+fn read_numbers<const N: usize>(
     bytes: &[u8],
     start: usize,
-    into: &mut [u16],
-    limit: u64,
+    into: &mut [u16; N],
     miscount: PlanFault,
     disorder: PlanFault,
-) -> CountRead
-    requires { (limit ≤ length into.old) × (0 < number_of miscount) × (0 < number_of disorder) }
-    ensures { Filled (numbers limit (number_of miscount) (number_of disorder)) bytes.now start result into.new }
+) -> Reading<usize>
+    ensures { Filled (numbers N (number_of miscount) (number_of disorder)) bytes.now start result into.new }
 {
-    let counted = read_number(bytes, start, 2, 1, limit, miscount);
-    let fault = counted.fault;
-    if !fault.is_none() {
-        return CountRead::stopped(fault, counted.at);
-    }
-    let count = counted.value as usize;
-    let mut at = counted.at;
+    let (count, mut at) = read_number(bytes, start, 2, 1, N as u64, miscount)?;
+    let count = count as usize;
     let mut least: u64 = 0;
-    let mut i: usize = 0;
-    while i < count {
-        let n = read_number(bytes, at, 2, least, 65535, disorder);
-        let fault = n.fault;
-        if !fault.is_none() {
-            return CountRead::stopped(fault, n.at);
-        }
-        into[i] = n.value as u16;
-        least = n.value + 1;
-        at = n.at;
-        i += 1;
+    for entry in &mut into[..count] {
+        let (n, next) = read_number(bytes, at, 2, least, 65535, disorder)?;
+        *entry = n as u16;
+        least = n + 1;
+        at = next;
     }
-    CountRead {
-        fault: PlanFault::None,
-        count,
-        at,
-    }
-}
-
-fn read_loggers(bytes: &[u8], start: usize, into: &mut Loggers) -> CountRead
-    ensures { Filled loggers bytes.now start result into.new }
-{
-    read_numbers(
-        bytes,
-        start,
-        into,
-        MAX_LOGGERS,
-        PlanFault::LoggerCount,
-        PlanFault::LoggerNumber,
-    )
-}
-
-fn read_kinds(bytes: &[u8], start: usize, into: &mut Kinds) -> CountRead
-    ensures { Filled kinds bytes.now start result into.new }
-{
-    read_numbers(
-        bytes,
-        start,
-        into,
-        MAX_KINDS,
-        PlanFault::KindCount,
-        PlanFault::KindNumber,
-    )
+    Ok((count, at))
 }
 
 // ---- nodes
@@ -348,31 +216,29 @@ fn is_third(node: Node, slot: u16) -> bool
     ensures { (kinds place : ℕ) → SlotOf kinds place node.third slot → result ≡ is_third kinds place node }
 {
     if node.operator <= Node::SEQ {
-        return node.third == Node::NO_INPUT;
+        node.third == Node::NO_INPUT
+    } else {
+        slot != NO_SLOT
     }
-    slot != NO_SLOT
 }
 
 // The inputs are judged by their slots.
-fn node_fault(node: Node, row: &NodeRow) -> PlanFault
-    ensures { (kinds place : ℕ) → RowOf kinds place node row.now → number_of result ≡ node_fault kinds place node }
+fn judge_node(node: Node, row: &NodeRow) -> Result<(), PlanFault>
+    ensures { (kinds place : ℕ) → RowOf kinds place node row.now → judged_as result ≡ node_fault kinds place node }
 {
     if !forms::is_within(node.operator, Node::OR, Node::ABSENCE) {
-        return PlanFault::Operator;
+        return Err(PlanFault::Operator);
     }
     if !forms::is_within(node.context, Node::RECENT, Node::CUMULATIVE) {
-        return PlanFault::Context;
+        return Err(PlanFault::Context);
     }
-    if row[LEFT] == NO_SLOT {
-        return PlanFault::Input;
-    }
-    if row[MIDDLE] == NO_SLOT {
-        return PlanFault::Input;
+    if row[LEFT] == NO_SLOT || row[MIDDLE] == NO_SLOT {
+        return Err(PlanFault::Input);
     }
     if !is_third(node, row[THIRD]) {
-        return PlanFault::ThirdInput;
+        return Err(PlanFault::ThirdInput);
     }
-    PlanFault::None
+    Ok(())
 }
 
 // The entry at a place.
@@ -389,116 +255,80 @@ fn node_at(bytes: &[u8], at: usize) -> Node
     }
 }
 
-// The row that is lent is filled before the node is judged: after a fault it says nothing.
-fn read_node(bytes: &[u8], at: usize, kinds: usize, place: usize, row: &mut NodeRow) -> NodeRead
+// Reads a node into the row that is lent, and gives the place after it. After a fault the row says nothing.
+fn read_node(
+    bytes: &[u8],
+    at: usize,
+    kinds: usize,
+    place: usize,
+    row: &mut NodeRow,
+) -> Result<usize, PlanRefusal>
     requires { (kinds ≤ 32) × (place < 16) }
-    ensures { (seen (number_of result.fault) result.node result.at
-        ≡ piece node (number_of PlanFault.CutShort) (node_fault kinds place) bytes.now at)
-        × (number_of result.fault ≡ 0 → (node_of row.new ≡ result.node) × SlotsBelow place row.new) }
+    ensures { MatchResult result
+        (λ next. (got (node_of row.new) next ≡ piece node (number_of PlanFault.CutShort) (node_fault kinds place) bytes.now at)
+        × SlotsBelow place row.new)
+        (λ r. refused_as r ≡ piece node (number_of PlanFault.CutShort) (node_fault kinds place) bytes.now at) }
 {
     if forms::left(bytes, at) < Node::WIDTH {
-        return NodeRead {
-            fault: PlanFault::CutShort,
-            node: Node::none(),
-            at,
-        };
+        return Err(PlanFault::CutShort.at(at));
     }
     let node = node_at(bytes, at);
     *row = row_of(node, kinds, place);
-    let fault = node_fault(node, row);
-    if !fault.is_none() {
-        return NodeRead { fault, node, at };
+    if let Err(fault) = judge_node(node, row) {
+        return Err(fault.at(at));
     }
-    NodeRead {
-        fault: PlanFault::None,
-        node,
-        at: at + Node::WIDTH,
-    }
+    Ok(at + Node::WIDTH)
 }
 
-fn read_nodes(bytes: &[u8], start: usize, kinds: usize, into: &mut Nodes) -> CountRead
+fn read_nodes(bytes: &[u8], start: usize, kinds: usize, into: &mut Nodes) -> Reading<usize>
     requires { kinds ≤ 32 }
-    ensures { Filled (nodes kinds) bytes.now start result (map node_of into.new) × Slotted result.count into.new }
+    ensures filled { Filled (nodes kinds) bytes.now start result (map node_of into.new) }
+    ensures slotted { IfOk result (λ r. Slotted r.0 into.new) }
 {
-    let places = into[..].len();
-    let counted = read_number(bytes, start, 2, 1, MAX_NODES, PlanFault::NodeCount);
-    let fault = counted.fault;
-    if !fault.is_none() {
-        return CountRead::stopped(fault, counted.at);
+    let (count, mut at) = read_number(bytes, start, 2, 1, into.len() as u64, PlanFault::NodeCount)?;
+    let count = count as usize;
+    // By index: each turn needs the place itself and the row there.
+    for place in 0..count {
+        at = read_node(bytes, at, kinds, place, &mut into[place])?;
     }
-    let count = counted.value as usize;
-    let mut at = counted.at;
-    let mut i: usize = 0;
-    while i < count {
-        let n = read_node(bytes, at, kinds, i, &mut into[i]);
-        let fault = n.fault;
-        if !fault.is_none() {
-            return CountRead::stopped(fault, n.at);
-        }
-        at = n.at;
-        i += 1;
-    }
-    CountRead {
-        fault: PlanFault::None,
-        count,
-        at,
-    }
+    Ok((count, at))
 }
 
 // ---- the whole file
-fn turned_back(fault: PlanFault, place: usize) -> PlanRead
-    ensures { ((loggers kinds : List ℕ) (nodes : List (List ℕ)) → answer_of result loggers kinds nodes ≡ refused (number_of fault) place)
-        × (result.logger_count ≤ 8) × (result.kind_count ≤ 32) × (result.node_count ≡ 0) }
-{
-    PlanRead {
-        fault,
-        place,
-        ratio: 0,
-        logger_count: 0,
-        kind_count: 0,
-        node_count: 0,
-    }
-}
-
 // Reads a plan into the arrays that are lent.
 pub fn read_plan(
     bytes: &[u8],
     loggers: &mut Loggers,
     kinds: &mut Kinds,
     nodes: &mut Nodes,
-) -> PlanRead
-    ensures { (answer_of result loggers.new kinds.new nodes.new ≡ read_plan bytes.now)
-        × (result.logger_count ≤ 8) × (result.kind_count ≤ 32) × (result.node_count ≤ 16) × Slotted result.node_count nodes.new }
+) -> Result<PlanRead, PlanRefusal>
+    ensures answer { answer_of result loggers.new kinds.new nodes.new ≡ read_plan bytes.now }
+    ensures counts { IfOk result (λ r. (r.logger_count ≤ 8) × (r.kind_count ≤ 32) × (r.node_count ≤ 16)) }
+    ensures slotted { IfOk result (λ r. Slotted r.node_count nodes.new) }
 {
-    let c = read_clocks(bytes, 0);
-    let fault = c.fault;
-    if !fault.is_none() {
-        return turned_back(fault, c.at);
+    let (ratio, at) = read_clocks(bytes, 0)?;
+    let (logger_count, at) = read_numbers(
+        bytes,
+        at,
+        loggers,
+        PlanFault::LoggerCount,
+        PlanFault::LoggerNumber,
+    )?;
+    let (kind_count, at) = read_numbers(
+        bytes,
+        at,
+        kinds,
+        PlanFault::KindCount,
+        PlanFault::KindNumber,
+    )?;
+    let (node_count, at) = read_nodes(bytes, at, kind_count, nodes)?;
+    if at < bytes.len() {
+        return Err(PlanFault::BytesRemain.at(at));
     }
-    let l = read_loggers(bytes, c.at, loggers);
-    let fault = l.fault;
-    if !fault.is_none() {
-        return turned_back(fault, l.at);
-    }
-    let k = read_kinds(bytes, l.at, kinds);
-    let fault = k.fault;
-    if !fault.is_none() {
-        return turned_back(fault, k.at);
-    }
-    let n = read_nodes(bytes, k.at, k.count, nodes);
-    let fault = n.fault;
-    if !fault.is_none() {
-        return turned_back(fault, n.at);
-    }
-    if n.at < bytes.len() {
-        return turned_back(PlanFault::BytesRemain, n.at);
-    }
-    PlanRead {
-        fault: PlanFault::None,
-        place: 0,
-        ratio: c.value,
-        logger_count: l.count,
-        kind_count: k.count,
-        node_count: n.count,
-    }
+    Ok(PlanRead {
+        ratio,
+        logger_count,
+        kind_count,
+        node_count,
+    })
 }

@@ -1,40 +1,37 @@
--- `forms::number_at`: the invariant: the bytes passed make the number so far.
+-- `forms::number_at`: a byte more each turn, and in the end all of them.
+use mathlib.Core.List.{List}
 use mathlib.Core.Path.{◌≡◌, refl, sym, ap, ◌∙◌}
-use Prim.Native.Nat.{◌+◌, ◌*◌}
+use Prim.Native.Nat.{ℕ, ◌+◌, ◌-◌, ◌*◌, ◌<◌}
 use native.Mathlib.Omega.{arith}
-use lib.ListN.{get_or}
+use lib.ListN.{get_or, take, drop}
+use lib.Seq.{take_all}
 use Rattle.forms.specs.Bytes.{value_of}
-use Rattle.forms.proofs.Numbers.{value-more, bound_more, bound_64}
-use borrow.Author.Rules.{rules}
+use Rattle.forms.proofs.Numbers.{value-more, bound_more, bound_64, length_part, bytes_take, bytes_drop}
 use Rattle.forms.proofs.number_at.Goals as goal
 
-pub loop-i-init : goal.loop-i-init
+pub loop-b-init : goal.loop-b-init
 unfolding value_of
-loop-i-init c = (search rules, refl, search rules)
+loop-b-init c = (refl, omega arith)
 
 pub overflow_mul-v : goal.overflow_mul-v
-overflow_mul-v c = omega (arith, bound_64 c.loop-i.i c.loop-i.v (omega arith) c.loop-i.invariant.2)
+overflow_mul-v c =
+    let a = c.args in
+    let l = c.loop-b in
+    omega (arith, length_part a.bytes.now a.at (a.at + a.width - a.at) (omega arith), bound_64 l.b-index l.v (omega arith) l.invariant.1)
 
-pub overflow_cast-v : goal.overflow_cast-v
-overflow_cast-v c = omega (arith, c.shared_slice_known-1.given (c.args.at + c.loop-i.i))
-
-pub overflow_add-v : goal.overflow_add-v
-overflow_add-v c =
-    let l = c.loop-i in
-    omega (arith, bound_64 l.i l.v (omega arith) l.invariant.2, c.shared_slice_known-1.given (c.args.at + l.i))
-
-pub loop-i-preserved : goal.loop-i-preserved
-loop-i-preserved c =
-    let s = c in
-    let a = s.args in (
-      search rules,
-      ap (λ v. v * 256 + get_or a.bytes.now (a.at + s.loop-i.i) 0) s.loop-i.invariant.1 ∙ sym (value-more a.bytes.now a.at s.loop-i.i (omega arith)),
-      bound_more s.loop-i.i s.loop-i.v _ s.loop-i.invariant.2 (omega (arith, c.shared_slice_known-1.given (a.at + s.loop-i.i))),
+pub loop-b-preserved : goal.loop-b-preserved
+loop-b-preserved c =
+    let a = c.args in
+    let l = c.loop-b in
+    let part : List ℕ = take (a.at + a.width - a.at) (drop a.at a.bytes.now) in
+    let byte : get_or part l.b-index 0 < 256 = bytes_take _ _ (bytes_drop a.at a.bytes.now (λ i. omega (arith, c.type_inv.bytes i))) l.b-index in (
+      ap (λ v. v * 256 + get_or part l.b-index 0) l.invariant.0 ∙ sym (value-more part l.b-index c.loop-b-test.true),
+      bound_more l.b-index l.v _ l.invariant.1 byte,
     )
 
 pub returns : goal.returns
 returns c =
-    let s = c in
-    let a = s.args in
-    let e : s.loop-i.i ≡ a.width = omega arith in
-    rw (← e) s.loop-i.invariant.1
+    let a = c.args in
+    let l = c.loop-b in
+    let w : a.at + a.width - a.at ≡ a.width = omega arith in
+    l.invariant.0 ∙ rw (take_all l.b-index _ c.loop-b-test.false, w)

@@ -7,8 +7,7 @@ use Rattle.plans.proofs.node_at.Goals as goal
 
 pub returns : goal.returns
 returns c =
-    let s = c in
-    let a = s.args in
+    let a = c.args in
     let is = node-value a.bytes.now a.at _ _ _ _ _
     c.number_at.ensures c.number_at-2.ensures c.number_at-3.ensures c.number_at-4.ensures c.number_at-5.ensures in
-    (is, subst node.fits (sym is) (node_laws.fit a.bytes.now a.at (λ i. omega (arith, s.shared_slice_known-1.given i)) s.requires))
+    (is, subst node.fits (sym is) (node_laws.fit a.bytes.now a.at (λ i. omega (arith, c.type_inv.bytes i)) c.requires))

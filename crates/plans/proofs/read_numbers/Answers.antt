@@ -1,83 +1,74 @@
--- `plans::read_numbers`: the count, and a loop. The invariant: the numbers that are left, read from here after those that are
--- held, are what the loop began to read; and a number is above those held from `least` on.
-use mathlib.Core.Path.{refl, sym, ◌∙◌}
-use Prim.Native.Nat.{◌<◌}
-use mathlib.Core.List.{[]}
+-- `plans::read_numbers`: the count, and a loop over as many numbers.
+use mathlib.Core.List.{◌++◌}
+use mathlib.Core.Path.{◌≡◌, sym, ◌∙◌}
+use Prim.Native.Nat.{◌≤◌, ◌<◌}
 use native.Mathlib.Omega.{arith}
-use lib.ListN.{length, take, length-set}
+use lib.ListN.{length, drop, take}
 use lib.Seq.{length-take-le}
 use lib.Dec.{leb-zero}
-use Rattle.forms.proofs.Sections.{count_stop, count_go, turn_go, turn_stop, turn_end}
+use Rattle.std.proofs.lemmas.List.{take-append-le}
+use Rattle.std.proofs.lemmas.Result.{err_from_is_err_and}
+use Rattle.forms.specs.Bytes.{Bytes}
+use Rattle.forms.proofs.Sections.{section_go, section_stop, entry_got, entry_bad, entries_got}
 use Rattle.plans.specs.Faults.{number_of}
 use Rattle.plans.specs.Reader.{numbers}
 use Rattle.plans.proofs.Sections.{least_more, rising-piece}
-use borrow.Author.Rules.{rules}
 use Rattle.plans.proofs.read_numbers.Goals as goal
 
-pub read_number-counted-requires : goal.read_number-counted-requires
-read_number-counted-requires c = (search rules, search rules, c.requires.1)
+pub returns-in_err-count : goal.returns-in_err-count
+returns-in_err-count g c =
+    let a = c.args in
+    let s = numbers g.row.N (number_of a.miscount) (number_of a.disorder) in
+    let p = err_from_is_err_and c.from_residual.result c.from_residual.ensures.1 in
+    rw (p.1, p.2) (record { is = sym (section_stop s a.bytes.now a.start _ _ (sym c.in_err-count.ensures.is)); counted = tt })
 
-pub returns-then-not-is_none : goal.returns-then-not-is_none
-returns-then-not-is_none c =
-    let t = c in
-    let r = t.read_number-counted in
-    let a = t.args in
-    rw c.stopped.ensures
+pub loop-entry-init : goal.loop-entry-init
+loop-entry-init g c =
+    let a = c.args in
+    let s = numbers g.row.N (number_of a.miscount) (number_of a.disorder) in
+    record { above = λ v. sym (leb-zero v); rest = section_go s a.bytes.now a.start _ _ (sym c.in_ok-count.ensures.is) }
+
+pub returns-in_err-n : goal.returns-in_err-n
+returns-in_err-n g c =
+    let a = c.args in
+    let l = c.loop-entry in
+    let s = numbers g.row.N (number_of a.miscount) (number_of a.disorder) in
+    let bytes : Bytes a.bytes.now = λ i. omega (arith, c.type_inv.bytes i) in
+    let rising = rising-piece 1 (number_of a.disorder) a.bytes.now l.at l.least (take l.entry-index l.entry-items) bytes l.invariant.above in
+    let long = length-take-le c.in_ok-count.count a.into.now (omega (arith, c.in_ok-count.ensures.most)) in
+    let p = err_from_is_err_and c.from_residual-in_err-n.result c.from_residual-in_err-n.ensures.1 in
+    rw (p.1, p.2)
     (record {
-      is = count_stop (numbers a.limit (number_of a.miscount) (number_of a.disorder)) a.bytes.now a.start _ _ _ r.ensures.0 (sym t.is_none.ensures ∙ t.if-not-is_none.true) [];
-      most = search rules;
-      holds = refl;
+      is = entry_bad s a.bytes.now _ l.entry-index l.entry-items l.at _ l.invariant.rest _ _ (omega (arith, long)) (c.in_err-n.ensures.is ∙ rising);
+      counted = tt;
     })
 
-pub loop-i-init : goal.loop-i-init
-loop-i-init c = (search rules, refl, (λ v. sym (leb-zero v)), (λ m. refl))
-
-pub read_number-n-requires : goal.read_number-n-requires
-read_number-n-requires c = (search rules, search rules, c.requires.2)
-
-pub returns-then-not-is_none-2 : goal.returns-then-not-is_none-2
-returns-then-not-is_none-2 c =
-    let t = c in
-    let r = t.read_number-n in
-    let s = t in
-    let p = s in
-    let q = p in
-    let a = q.args in
-    let sec = numbers a.limit (number_of a.miscount) (number_of a.disorder) in
-    let e = r.ensures.0 ∙ rising-piece 1 (number_of a.disorder) a.bytes.now s.loop-i.at s.loop-i.least (take s.loop-i.i s.loop-i.into) (λ j. omega (arith, q.shared_slice_known-1.given j)) s.loop-i.invariant.2 in
-    rw c.stopped-then-not-is_none-2.ensures
-    (record {
-      is = turn_stop sec a.bytes.now _ s.loop-i.i s.loop-i.into _ _ (s.loop-i.invariant.3 (number_of a.miscount)) _ _ _ (search rules) e (sym t.is_none-in-loop-i.ensures ∙ t.if-not-is_none-2.true) []
-          ∙ count_go sec a.bytes.now a.start _ _ _ p.read_number-counted.ensures.0 (sym s.is_none.ensures ∙ s.if-not-is_none.false);
-      most = search rules;
-      holds = refl;
-    })
-
-pub loop-i-preserved : goal.loop-i-preserved
-loop-i-preserved c =
-    let r = c.read_number-n in
-    let s = c in
-    let p = s in
-    let q = p in
-    let a = q.args in
-    let e = r.ensures.0 ∙ rising-piece 1 (number_of a.disorder) a.bytes.now s.loop-i.at s.loop-i.least (take s.loop-i.i s.loop-i.into) (λ j. omega (arith, q.shared_slice_known-1.given j)) s.loop-i.invariant.2 in
-    let in_count = c.loop-i-test.true in
-    let j : s.loop-i.i < length s.loop-i.into = omega (arith, in_count, s.loop-i.invariant.1, p.read_number-counted.ensures.1, q.requires.0) in (
-      omega (arith, in_count),
-      simp length-set (omega arith),
-      least_more s.loop-i.into s.loop-i.i r.result.value j,
-      (λ m. turn_go (numbers a.limit m (number_of a.disorder)) a.bytes.now _ s.loop-i.i s.loop-i.into _ _ (s.loop-i.invariant.3 m) _ _ _ in_count j e (sym c.is_none-in-loop-i.ensures ∙ c.if-not-is_none-2.false)),
-    )
+pub loop-entry-preserved : goal.loop-entry-preserved
+loop-entry-preserved g c =
+    let a = c.args in
+    let l = c.loop-entry in
+    let s = numbers g.row.N (number_of a.miscount) (number_of a.disorder) in
+    let bytes : Bytes a.bytes.now = λ i. omega (arith, c.type_inv.bytes i) in
+    let rising = rising-piece 1 (number_of a.disorder) a.bytes.now l.at l.least (take l.entry-index l.entry-items) bytes l.invariant.above in
+    let long = length-take-le c.in_ok-count.count a.into.now (omega (arith, c.in_ok-count.ensures.most)) in
+    let room : l.entry-index < length l.entry-items = omega arith in
+    record {
+      above = least_more l.entry-items l.entry-index c.in_ok-n.n room;
+      rest = entry_got s a.bytes.now _ l.entry-index l.entry-items l.at _ l.invariant.rest _ _ (omega (arith, long)) room
+          (c.in_ok-n.ensures.is ∙ rising);
+    }
 
 pub returns : goal.returns
-returns c =
-    let s = c in
-    let p = s in
-    let a = p.args in
-    let sec = numbers a.limit (number_of a.miscount) (number_of a.disorder) in
+returns g c =
+    let a = c.args in
+    let l = c.loop-entry in
+    let s = numbers g.row.N (number_of a.miscount) (number_of a.disorder) in
+    let most = c.in_ok-count.ensures.most in
+    let count = c.in_ok-count.count in
+    let long = length-take-le count a.into.now (omega (arith, most)) in
+    let all : count ≤ length l.entry-items = omega (arith, long) in
+    let held : take count (l.entry-items ++ drop count a.into.now) ≡ take count l.entry-items = take-append-le count l.entry-items _ all in
     record {
-      is = turn_end sec a.bytes.now p.read_number-counted.result.value s.loop-i.i s.loop-i.into _ _ (s.loop-i.invariant.3 (number_of a.miscount)) (omega arith)
-          ∙ count_go sec a.bytes.now a.start _ _ _ p.read_number-counted.ensures.0 (sym s.is_none.ensures ∙ s.if-not-is_none.false);
-      most = search rules;
-      holds = length-take-le p.read_number-counted.result.value s.loop-i.into (omega arith);
+      is = rw held (entries_got s a.bytes.now count l.entry-index l.entry-items l.at _ l.invariant.rest (omega (arith, long)));
+      counted = (most, rw held (length-take-le count l.entry-items all));
     }
