@@ -1,5 +1,5 @@
 -- Which lefts no waiting middle blocks.
-use Rattle.std.proofs.Common.{◌≡◌, ℕ, ◌+◌, ◌<◌, ◌≤◌, Bool, true, false, not, ◌&&◌, List, [], ◌∷◌, map, length, get_or, take, drop, refl, ap, add-one, arith, drop_of_length-le, length-take-le, get_or-take, take_all, drop-cons}
+use Rattle.std.proofs.Common.{◌≡◌, ℕ, ◌+◌, ◌<◌, ◌≤◌, Bool, true, false, ◌&&◌, List, [], ◌∷◌, map, length, get_or, take, drop, refl, ap, add-one, arith, drop_of_length-le, length-take-le, get_or-take, take_all, drop-cons}
 use Rattle.sequences.specs.Marks.{padded}
 use Rattle.sequences.specs.Select.{some_passes}
 use Rattle.timestamps.specs.Order.{Clocks}

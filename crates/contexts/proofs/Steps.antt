@@ -31,7 +31,7 @@ use Rattle.waiting_lists.specs.declared.WaitingList.{WaitingList}
 use Rattle.waiting_lists.specs.Lists.{list_of, place_in}
 use Rattle.waiting_lists.specs.Marks.{marks_of}
 use Rattle.waiting_lists.proofs.Marks.{length_marks, marks_and, marks_less, marks_turn, padded-next}
-use Rattle.contexts.specs.Choice.{and_candidates, chosen, removed_of, removes, taken_of, takes}
+use Rattle.contexts.specs.Choice.{and_candidates, removed_of, removes, taken_of, takes}
 use Rattle.contexts.specs.Steps.{Lows, bars_by, bars_of, no_tick}
 use Rattle.contexts.specs.Table.{Taken, latest, earliest, every, untaken, taken, all}
 

@@ -16,6 +16,21 @@ use std::io;
 // A waiting list that has room for 16, in front of its places.
 type Row = [Packed; 17];
 
+#[derive(Clone, Copy)]
+enum Operator {
+    Seq,
+    And,
+}
+
+impl Operator {
+    fn name(self) -> &'static str {
+        match self {
+            Operator::Seq => "SEQ ",
+            Operator::And => "AND ",
+        }
+    }
+}
+
 // One more event of a logger waits.
 fn add(list: &mut Row, logger: u8, number: usize)
     requires { (number < 128) × (logger < 8) }
@@ -48,13 +63,6 @@ fn write_number(rt: &impl Print, n: usize) -> io::Result<()> {
     print!(rt; " {n}")
 }
 
-fn write_element(rt: &impl Print, set: EventSet, number: usize) -> io::Result<()> {
-    if event_sets::holds(set, number) {
-        write_number(rt, number)?;
-    }
-    Ok(())
-}
-
 fn events_of(o: &Packed) -> EventSet {
     EventSet {
         low: o[0],
@@ -65,7 +73,9 @@ fn events_of(o: &Packed) -> EventSet {
 fn write_events(rt: &impl Print, o: &Packed) -> io::Result<()> {
     let set = events_of(o);
     for i in 0..128 {
-        write_element(rt, set, i)?;
+        if event_sets::holds(set, i) {
+            write_number(rt, i)?;
+        }
     }
     write(rt, ",")
 }
@@ -74,33 +84,14 @@ fn write_events(rt: &impl Print, o: &Packed) -> io::Result<()> {
 fn waiting_in(list: &Row) -> usize
     ensures { result ≤ 16 }
 {
-    let waiting = waiting_lists::list_of(list);
-    waiting_lists::count(waiting.len)
+    waiting_lists::count(waiting_lists::list_of(list).len)
 }
 
 fn write_waiting(rt: &impl Print, list: &Row) -> io::Result<()> {
     let waiting = waiting_lists::list_of(list);
-    let n = waiting_lists::count(waiting.len);
-    for i in 0..n {
+    for i in 0..waiting_in(list) {
         let place = waiting_lists::place_at(waiting, i);
         write_events(rt, &list[place])?;
-    }
-    Ok(())
-}
-
-fn write_combined(
-    rt: &impl Print,
-    mark: bool,
-    w: &Packed,
-    o: &Packed,
-    ticks: &[u64],
-    globals: &[u64],
-) -> io::Result<()>
-    requires { Within ticks.now globals.now w.now × Within ticks.now globals.now o.now }
-{
-    if mark {
-        let c = occurrences::combined(w, o, ticks, globals);
-        write_events(rt, &c)?;
     }
     Ok(())
 }
@@ -117,11 +108,12 @@ fn write_each(
     requires { Arrives ticks.now globals.now list.now o.now }
 {
     let waiting = waiting_lists::list_of(list);
-    let n = waiting.len;
-    for i in 0..n {
-        let mark = waiting_lists::is_marked(taken, i);
-        let place = waiting_lists::place_at(waiting, i);
-        write_combined(rt, mark, &list[place], o, ticks, globals)?;
+    for i in 0..waiting.len {
+        if waiting_lists::is_marked(taken, i) {
+            let place = waiting_lists::place_at(waiting, i);
+            let c = occurrences::combined(&list[place], o, ticks, globals);
+            write_events(rt, &c)?;
+        }
     }
     Ok(())
 }
@@ -137,10 +129,7 @@ fn write_together(
 ) -> io::Result<()>
     requires { Arrives ticks.now globals.now list.now o.now }
 {
-    let first = waiting_lists::first_marked(taken);
-    let waiting = waiting_lists::list_of(list);
-    let n = waiting.len;
-    if first < n {
+    if waiting_lists::first_marked(taken) < waiting_lists::list_of(list).len {
         let all = contexts::all_combined(list, taken, o, ticks, globals);
         write_events(rt, &all)?;
     }
@@ -178,49 +167,44 @@ fn work(
     requires { Arrives ticks.now globals.now list.old o.now }
 {
     let c = contexts::choose(context, list, candidates, ticks, globals);
-    let taken = c.taken;
-    let removed = c.removed;
     write(rt, " makes")?;
-    write_made(rt, context, list, taken, o, ticks, globals)?;
-    waiting_lists::remove_from(list, removed);
+    write_made(rt, context, list, c.taken, o, ticks, globals)?;
+    waiting_lists::remove_from(list, c.removed);
     write(rt, " leaves")?;
     write_waiting(rt, list)?;
     write(rt, "\n")
 }
 
-// SEQ's candidates, of those that wait in a row.
-fn before(list: &Row, o: &Packed, ticks: &[u64], globals: &[u64]) -> u64
+// The candidates of those that wait in a row.
+fn candidates(operator: Operator, list: &Row, o: &Packed, ticks: &[u64], globals: &[u64]) -> u64
     requires { Arrives ticks.now globals.now list.now o.now }
 {
-    contexts::before_arrival(list, o, ticks, globals)
+    match operator {
+        Operator::Seq => contexts::before_arrival(list, o, ticks, globals),
+        Operator::And => contexts::all_waiting(waiting_in(list)),
+    }
 }
 
 // By number plus one the local and the global ticks, each plus one: logger 1 at 80 and 95, logger 2 at 120, logger 3 at 100, logger 2 at 300; ten in a
 // global tick.
-fn seq(rt: &impl Print, context: u64, name: &str) -> io::Result<()> {
-    let nothing = [0u64; 3];
-    let mut list = [nothing; 17];
+fn arrive(rt: &impl Print, operator: Operator, context: u64, name: &str) -> io::Result<()> {
+    let mut list = [[0u64; 3]; 17];
     let ticks = [0u64, 81, 96, 121, 101, 301];
     let globals = [0u64, 9, 10, 13, 11, 31];
     wait_four(&mut list);
     let o = occurrences::of_event(2, 2);
-    let candidates = before(&list, &o, &ticks, &globals);
-    write(rt, "SEQ ")?;
+    let marks = candidates(operator, &list, &o, &ticks, &globals);
+    write(rt, operator.name())?;
     write(rt, name)?;
-    work(rt, context, &mut list, candidates, &o, &ticks, &globals)
+    work(rt, context, &mut list, marks, &o, &ticks, &globals)
 }
 
-fn and(rt: &impl Print, context: u64, name: &str) -> io::Result<()> {
-    let nothing = [0u64; 3];
-    let mut list = [nothing; 17];
-    let ticks = [0u64, 81, 96, 121, 101, 301];
-    let globals = [0u64, 9, 10, 13, 11, 31];
-    wait_four(&mut list);
-    let o = occurrences::of_event(2, 2);
-    let candidates = contexts::all_waiting(waiting_in(&list));
-    write(rt, "AND ")?;
-    write(rt, name)?;
-    work(rt, context, &mut list, candidates, &o, &ticks, &globals)
+// In each of the four contexts.
+fn arrive_in_each(rt: &impl Print, operator: Operator) -> io::Result<()> {
+    arrive(rt, operator, 1, "recent")?;
+    arrive(rt, operator, 2, "chronicle")?;
+    arrive(rt, operator, 3, "continuous")?;
+    arrive(rt, operator, 4, "cumulative")
 }
 
 // One more, and a line where the list is full.
@@ -245,8 +229,7 @@ fn two_leave(list: &mut Row) {
 
 // Sixteen wait and no more; two leave, and a freed place is used again.
 fn fill(rt: &impl Print) -> io::Result<()> {
-    let nothing = [0u64; 3];
-    let mut list = [nothing; 17];
+    let mut list = [[0u64; 3]; 17];
     for i in 0..18 {
         one_more(rt, &mut list, i)?;
     }
@@ -258,13 +241,7 @@ fn fill(rt: &impl Print) -> io::Result<()> {
 }
 
 fn main(rt: HostRuntime) -> io::Result<()> {
-    seq(&rt, 1, "recent")?;
-    seq(&rt, 2, "chronicle")?;
-    seq(&rt, 3, "continuous")?;
-    seq(&rt, 4, "cumulative")?;
-    and(&rt, 1, "recent")?;
-    and(&rt, 2, "chronicle")?;
-    and(&rt, 3, "continuous")?;
-    and(&rt, 4, "cumulative")?;
+    arrive_in_each(&rt, Operator::Seq)?;
+    arrive_in_each(&rt, Operator::And)?;
     fill(&rt)
 }

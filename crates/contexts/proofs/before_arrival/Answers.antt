@@ -27,7 +27,7 @@ loop-i-preserved c = λ t l x h p.
     let here : c.loop-i.i < length l = omega (arith, read_length t _ l h _ c.list_of-waiting.ensures, c.loop-i-test.true) in
     let word = c.order-word.ensures t (get_or l c.loop-i.i no_occurrence) x (c.lowest-low.ensures t.no_global) (c.lowest-first.ensures t.no_global) (read_at t _ l h _ c.list_of-waiting.ensures _ _ c.place_at-place.ensures c.loop-i-test.true) p in
     tested_turn l (marks_of c.loop-i.marks) c.loop-i.i here (waits-few t _ l h) (λ o. is_before t.clocks o x) _ _ (c.loop-i.invariant t l x h p)
-    (before_told t.clocks _ x _ _ c.eq.ensures word) c.with_mark-marks.ensures
+    (before_told t.clocks _ x c.order-word.result c.eq.result c.eq.ensures word) c.with_mark-marks.ensures
 
 pub returns : goal.returns
 unfolding seq_candidates

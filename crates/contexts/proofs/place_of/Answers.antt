@@ -12,6 +12,6 @@ returns-then-context-le4 c = (omega arith, refl)
 pub returns-else-context-gt0 : goal.returns-else-context-gt0
 returns-else-context-gt0 c =
     elim c.else-context-gt0.branch [
-      | else-context-gt0-via-then-context-gt0+else-context-le4 w ↦ (omega arith, past_recent _ w.if-context-le4.false)
-      | else-context-gt0-via-else-context-gt0 w ↦ (omega arith, none_recent _ w.if-context-gt0.false)
+      | else-context-gt0-via-then-context-gt0+else-context-le4 w ↦ (omega arith, past_recent c.args.context w.if-context-le4.false)
+      | else-context-gt0-via-else-context-gt0 w ↦ (omega arith, none_recent c.args.context w.if-context-gt0.false)
     ]

@@ -23,7 +23,7 @@ returns-then-eq c = λ t l x h p.
     let here : c.loop-i.i < length l = omega (arith, read_length t _ l h _ c.list_of-waiting.ensures, c.loop-i-test.true) in
     let few : c.loop-i.i < length (marks_of c.loop-i.rest) = omega (arith, read-few t _ l h _ c.list_of-waiting.ensures, c.loop-i-test.true, length_marks c.loop-i.rest) in
     let word = c.order-word.ensures t (get_or l c.loop-i.i no_occurrence) x (c.lowest-low.ensures t.no_global) (c.lowest-first.ensures t.no_global) (read_at t _ l h _ c.list_of-waiting.ensures _ _ c.place_at-place.ensures c.loop-i-test.true) p in
-    some-here (λ w. is_before t.clocks w x) l (marks_of c.loop-i.rest) c.loop-i.i c.loop-i.invariant.0 here few (sym (before_told t.clocks _ x _ _ c.eq.ensures word) ∙ c.if-eq.true)
+    some-here (λ w. is_before t.clocks w x) l (marks_of c.loop-i.rest) c.loop-i.i c.loop-i.invariant.0 here few (sym (before_told t.clocks _ x c.order-word.result c.eq.result c.eq.ensures word) ∙ c.if-eq.true)
     ∙ c.loop-i.invariant.1 t l x h p
 
 pub overflow_sub-rest : goal.overflow_sub-rest
@@ -43,7 +43,7 @@ loop-i-preserved c = (
       let here : c.loop-i.i < length l = omega (arith, read_length t _ l h _ c.list_of-waiting.ensures, c.loop-i-test.true) in
       let few : c.loop-i.i < length (marks_of c.loop-i.rest) = omega (arith, read-few t _ l h _ c.list_of-waiting.ensures, c.loop-i-test.true, length_marks c.loop-i.rest) in
       let word = c.order-word.ensures t (get_or l c.loop-i.i no_occurrence) x (c.lowest-low.ensures t.no_global) (c.lowest-first.ensures t.no_global) (read_at t _ l h _ c.list_of-waiting.ensures _ _ c.place_at-place.ensures c.loop-i-test.true) p in
-      some-later (λ w. is_before t.clocks w x) l (marks_of c.loop-i.rest) c.loop-i.i c.loop-i.invariant.0 here few (sym (before_told t.clocks _ x _ _ c.eq.ensures word) ∙ c.if-eq.false) _
+      some-later (λ w. is_before t.clocks w x) l (marks_of c.loop-i.rest) c.loop-i.i c.loop-i.invariant.0 here few (sym (before_told t.clocks _ x c.order-word.result c.eq.result c.eq.ensures word) ∙ c.if-eq.false) _
       (marks_rest c.loop-i.rest)
       ∙ c.loop-i.invariant.1 t l x h p,
 )
