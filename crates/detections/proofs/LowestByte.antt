@@ -130,7 +130,7 @@ module _ (n : ℕ) (p : 0 < n) (h : n < 2 ^ 64) where
       (λ d m i e l k. rw (without_up m i e) (bytes_up (without (m / 256) i) m l k))
       8 n p h k)
 
-  module _ (table : List ℕ) (inside : Inside 8 table n) where
+  module _ {A : Type 0} (table : List A) (inside : Inside 8 table n) where
     pub lowest_named : byte_of n lowest_place < length table
     unfolding byte_at
     lowest_named = inside lowest_place lowest-place

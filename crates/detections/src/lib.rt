@@ -6,7 +6,7 @@ ghost use Rattle.forms.specs.Bytes.{big_endian};
 ghost use Rattle.forms.specs.Forms.{number, each, section_bytes};
 ghost use Rattle.timestamps.specs.Composite.{members};
 ghost use Rattle.event_sets.specs.Sets.{elements, size_of};
-ghost use Rattle.occurrences.specs.Packed.{occurrence_of};
+ghost use Rattle.occurrences.specs.Packed.{occurrence_of, ticks_of};
 ghost use Rattle.occurrences.specs.Steps.{Inside};
 ghost use Rattle.detections.specs.Findings.{Finding, stamp, finding_bytes};
 ghost use Rattle.detections.specs.Views.{written_bytes, written_stamps};
@@ -15,7 +15,7 @@ ghost use Rattle.detections.specs.Steps.{bits_from, named_bytes, one_if, stamp_b
 
 use event_sets::EventSet;
 use occurrences::Packed;
-use timestamps::LocalTick;
+use timestamps::{LocalTick, Note};
 
 // The plan's logger numbers by logger place, 0 where there is none.
 pub type LoggerNumbers = [u64; 8];
@@ -46,13 +46,13 @@ fn one_if(w: u64) -> usize
 }
 
 // How many timestamps an occurrence has.
-pub fn timestamp_count(o: &Packed, ticks: &[u64]) -> usize
-    requires { Inside 8 ticks.now (get_or o.now 2 0) }
-    ensures { (result ≡ length (members (occurrence_of ticks.now o.now).latest)) × (result ≤ 8) }
+pub fn timestamp_count(o: &Packed, notes: &[Note]) -> usize
+    requires { Inside 8 notes.now (get_or o.now 2 0) }
+    ensures { (result ≡ length (members (occurrence_of (ticks_of notes.now) o.now).latest)) × (result ≤ 8) }
 {
     let mut n = 0;
     for k in 0..8 {
-        n += one_if(occurrences::word_at(o, ticks, k));
+        n += one_if(occurrences::word_at(o, notes, k));
     }
     n
 }
@@ -73,12 +73,12 @@ pub fn size(timestamps: usize, events: usize) -> usize
 }
 
 // Whether the finding of an occurrence fits in so many bytes.
-pub fn fits(o: &Packed, ticks: &[u64], left: usize) -> bool
-    requires { Inside 8 ticks.now (get_or o.now 2 0) }
+pub fn fits(o: &Packed, notes: &[Note], left: usize) -> bool
+    requires { Inside 8 notes.now (get_or o.now 2 0) }
     ensures { (loggers : List ℕ) (node : ℕ)
-        → result ≡ leb (length (written_bytes ticks.now loggers node o.now)) left }
+        → result ≡ leb (length (written_bytes (ticks_of notes.now) loggers node o.now)) left }
 {
-    MOST <= left || size(timestamp_count(o, ticks), event_count(o)) <= left
+    MOST <= left || size(timestamp_count(o, notes), event_count(o)) <= left
 }
 
 // ---- writing
@@ -111,13 +111,13 @@ fn put_u64(out: &mut [u8], at: usize, v: u64) -> usize
 }
 
 // The stamp of an event, where the table has its tick. The tick is read when the logger is written: then each is one store.
-fn put_stamp(out: &mut [u8], at: usize, logger: u64, event: usize, ticks: &[u64]) -> usize
-    requires { (event < length ticks.now) × (at + length (stamp_bytes logger (get_or ticks.now event 0)) ≤ length out.old) }
-    ensures { Wrote out.old at (stamp_bytes logger (get_or ticks.now event 0)) result out.new }
+fn put_stamp(out: &mut [u8], at: usize, logger: u64, event: usize, notes: &[Note]) -> usize
+    requires { (event < length notes.now) × (at + length (stamp_bytes logger (get_or (ticks_of notes.now) event 0)) ≤ length out.old) }
+    ensures { Wrote out.old at (stamp_bytes logger (get_or (ticks_of notes.now) event 0)) result out.new }
 {
-    if 0 < ticks[event] {
+    if 0 < notes[event].tick {
         let a = put_u16(out, at, logger);
-        put_u64(out, a, ticks[event] - 1)
+        put_u64(out, a, notes[event].tick - 1)
     } else {
         at
     }
@@ -128,12 +128,12 @@ fn put_named(
     out: &mut [u8],
     at: usize,
     packed: u64,
-    ticks: &[u64],
+    notes: &[Note],
     loggers: &LoggerNumbers,
 ) -> usize
-    requires { Inside 8 ticks.now packed × (get_or ticks.now 0 0 ≡ 0)
-        × (at + length (named_bytes ticks.now loggers.now 8 0 packed) ≤ length out.old) }
-    ensures { Wrote out.old at (named_bytes ticks.now loggers.now 8 0 packed) result out.new }
+    requires { Inside 8 notes.now packed × (get_or (ticks_of notes.now) 0 0 ≡ 0)
+        × (at + length (named_bytes (ticks_of notes.now) loggers.now 8 0 packed) ≤ length out.old) }
+    ensures { Wrote out.old at (named_bytes (ticks_of notes.now) loggers.now 8 0 packed) result out.new }
 {
     let mut to = at;
     let mut rest = packed;
@@ -141,7 +141,7 @@ fn put_named(
     while 0 < rest {
         let k = (rest.trailing_zeros() / 8) as usize;
         let event = (rest >> (8 * k)) % 256;
-        to = put_stamp(out, to, loggers[k], event as usize, ticks);
+        to = put_stamp(out, to, loggers[k], event as usize, notes);
         // Without that byte.
         rest -= event << (8 * k);
     }
@@ -153,15 +153,15 @@ fn put_stamps(
     out: &mut [u8],
     at: usize,
     o: &Packed,
-    ticks: &[u64],
+    notes: &[Note],
     loggers: &LoggerNumbers,
 ) -> usize
-    requires { Inside 8 ticks.now (get_or o.now 2 0) × (get_or ticks.now 0 0 ≡ 0)
-        × (at + length (each stamp (written_stamps ticks.now loggers.now o.now)) ≤ length out.old) }
-    ensures { Wrote out.old at (each stamp (written_stamps ticks.now loggers.now o.now))
+    requires { Inside 8 notes.now (get_or o.now 2 0) × (get_or (ticks_of notes.now) 0 0 ≡ 0)
+        × (at + length (each stamp (written_stamps (ticks_of notes.now) loggers.now o.now)) ≤ length out.old) }
+    ensures { Wrote out.old at (each stamp (written_stamps (ticks_of notes.now) loggers.now o.now))
         result out.new }
 {
-    put_named(out, at, o[2], ticks, loggers)
+    put_named(out, at, o[2], notes, loggers)
 }
 
 // The stamps after their count; ten bytes are one.
@@ -169,16 +169,16 @@ fn put_stamp_section(
     out: &mut [u8],
     at: usize,
     o: &Packed,
-    ticks: &[u64],
+    notes: &[Note],
     loggers: &LoggerNumbers,
 ) -> usize
-    requires { Inside 8 ticks.now (get_or o.now 2 0) × (get_or ticks.now 0 0 ≡ 0)
-        × (at + length (section_bytes stamp (written_stamps ticks.now loggers.now o.now)) ≤ length out.old) }
-    ensures { Wrote out.old at (section_bytes stamp (written_stamps ticks.now loggers.now o.now))
+    requires { Inside 8 notes.now (get_or o.now 2 0) × (get_or (ticks_of notes.now) 0 0 ≡ 0)
+        × (at + length (section_bytes stamp (written_stamps (ticks_of notes.now) loggers.now o.now)) ≤ length out.old) }
+    ensures { Wrote out.old at (section_bytes stamp (written_stamps (ticks_of notes.now) loggers.now o.now))
         result out.new }
 {
     let from = at + 2;
-    let to = put_stamps(out, from, o, ticks, loggers);
+    let to = put_stamps(out, from, o, notes, loggers);
     put_u16(out, at, ((to - from) / STAMP) as u64);
     to
 }
@@ -225,14 +225,14 @@ pub fn write(
     at: usize,
     node: u64,
     o: &Packed,
-    ticks: &[u64],
+    notes: &[Note],
     loggers: &LoggerNumbers,
 ) -> usize
-    requires { Inside 8 ticks.now (get_or o.now 2 0) × (get_or ticks.now 0 0 ≡ 0)
-        × (at + length (written_bytes ticks.now loggers.now node o.now) ≤ length out.old) }
-    ensures { Wrote out.old at (written_bytes ticks.now loggers.now node o.now) result out.new }
+    requires { Inside 8 notes.now (get_or o.now 2 0) × (get_or (ticks_of notes.now) 0 0 ≡ 0)
+        × (at + length (written_bytes (ticks_of notes.now) loggers.now node o.now) ≤ length out.old) }
+    ensures { Wrote out.old at (written_bytes (ticks_of notes.now) loggers.now node o.now) result out.new }
 {
     let a = put_u16(out, at, node);
-    let b = put_stamp_section(out, a, o, ticks, loggers);
+    let b = put_stamp_section(out, a, o, notes, loggers);
     put_event_section(out, b, occurrences::events_of(o))
 }

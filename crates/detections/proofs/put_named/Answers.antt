@@ -1,4 +1,5 @@
 -- The stamps that the bytes left name, written from here, make all of them.
+use Rattle.occurrences.specs.Packed.{ticks_of}
 use native.Mathlib.Omega.{arith}
 use Rattle.detections.specs.Steps.{stamp_bytes}
 use Rattle.detections.proofs.LowestByte.{lowest-fewer, lowest-inside, lowest_named, lowest-place, lowest-within}
@@ -28,8 +29,8 @@ bounds-loggers-k c = omega (arith, lowest-place c.loop-rest.rest c.loop-rest-tes
 pub put_stamp-to-requires : goal.put_stamp-to-requires
 put_stamp-to-requires c =
     let rest = c.loop-rest.rest in
-    let turn = named_turn c.args.ticks.now c.args.loggers.now c.requires.1 rest c.loop-rest-test.true c.loop-rest.invariant.0 in
-    (lowest_named rest c.loop-rest-test.true c.loop-rest.invariant.0 c.args.ticks.now c.loop-rest.invariant.1, writes_room c.loop-rest.invariant.2 (stamp_bytes _ _) _ turn)
+    let turn = named_turn (ticks_of c.args.notes.now) c.args.loggers.now c.requires.1 rest c.loop-rest-test.true c.loop-rest.invariant.0 in
+    (lowest_named rest c.loop-rest-test.true c.loop-rest.invariant.0 c.args.notes.now c.loop-rest.invariant.1, writes_room c.loop-rest.invariant.2 (stamp_bytes _ _) _ turn)
 
 pub overflow_mul-rest : goal.overflow_mul-rest
 overflow_mul-rest c =
@@ -57,9 +58,9 @@ loop-rest-preserved c =
     let p = c.loop-rest-test.true in
     let h = c.loop-rest.invariant.0 in (
       omega (arith, lowest-fewer rest p h, h),
-      lowest-inside rest p h c.args.ticks.now c.loop-rest.invariant.1,
-      writes_turn c.loop-rest.invariant.2 (named_turn c.args.ticks.now c.args.loggers.now c.requires.1 rest p h) c.put_stamp-to.ensures,
+      lowest-inside rest p h c.args.notes.now c.loop-rest.invariant.1,
+      writes_turn c.loop-rest.invariant.2 (named_turn (ticks_of c.args.notes.now) c.args.loggers.now c.requires.1 rest p h) c.put_stamp-to.ensures,
     )
 
 pub returns : goal.returns
-returns c = writes_end c.loop-rest.invariant.2 (named_end c.args.ticks.now c.args.loggers.now c.requires.1 c.loop-rest.rest c.loop-rest-test.false)
+returns c = writes_end c.loop-rest.invariant.2 (named_end (ticks_of c.args.notes.now) c.args.loggers.now c.requires.1 c.loop-rest.rest c.loop-rest-test.false)

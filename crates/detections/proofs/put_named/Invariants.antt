@@ -1,4 +1,5 @@
 -- The stamps that the bytes left name, written from here, make all of them.
+use Rattle.occurrences.specs.Packed.{ticks_of}
 use Prim.Native.Nat.{◌^◌, ◌<◌}
 use Rattle.occurrences.specs.Steps.{Inside}
 use Rattle.detections.specs.Steps.{named_bytes}
@@ -7,7 +8,7 @@ use Rattle.detections.proofs.put_named.Given as goal
 
 abbrev pub invariant-loop-rest : goal.invariant-loop-rest
 invariant-loop-rest l =
-    (l.rest < 2 ^ 64) × Inside 8 l.ticks l.rest × Writes l.initial.out l.at (named_bytes l.ticks l.loggers 8 0 l.packed) l.out l.to (named_bytes l.ticks l.loggers 8 0 l.rest)
+    (l.rest < 2 ^ 64) × Inside 8 l.notes l.rest × Writes l.initial.out l.at (named_bytes (ticks_of l.notes) l.loggers 8 0 l.packed) l.out l.to (named_bytes (ticks_of l.notes) l.loggers 8 0 l.rest)
 
 abbrev pub decreases-loop-rest : goal.decreases-loop-rest
 decreases-loop-rest l = l.rest
