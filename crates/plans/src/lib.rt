@@ -207,17 +207,17 @@ fn read_number(
         × (result.value ≤ high) }
 {
     match forms::read_number(bytes, at, width, low, high) {
-        forms::NumberRead::CutShort => NumberRead {
+        Err(forms::NumberFault::CutShort) => NumberRead {
             fault: PlanFault::CutShort,
             value: 0,
             at,
         },
-        forms::NumberRead::Outside => NumberRead {
+        Err(forms::NumberFault::Outside) => NumberRead {
             fault: wrong,
             value: 0,
             at,
         },
-        forms::NumberRead::Value(value) => NumberRead {
+        Ok(value) => NumberRead {
             fault: PlanFault::None,
             value,
             at: at + width,

@@ -12,31 +12,31 @@ use Rattle.plans.proofs.read_number.Goals as goal
 pub overflow_add-result : goal.overflow_add-result
 overflow_add-result c =
     let a = c.args in
-    omega (arith, (number-value a.width a.low a.high a.bytes.now a.at c.in-Value.value (sym c.in-Value.ensures)).0)
+    omega (arith, (number-value a.width a.low a.high a.bytes.now a.at c.in-Ok.value (sym c.in-Ok.ensures)).0)
 
-pub returns-in-CutShort : goal.returns-in-CutShort
-returns-in-CutShort c =
+pub returns-in-Err-CutShort : goal.returns-in-Err-CutShort
+returns-in-Err-CutShort c =
     let a = c.args in
     let k = number_of a.wrong in (
-      bad-seen 1 0 a.at refl ∙ ap (read_of 1 k a.width a.at) c.in-CutShort.ensures
+      bad-seen 1 0 a.at refl ∙ ap (read_of 1 k a.width a.at) (rw c.in-Err-CutShort.field-0-is at c.in-Err-CutShort.ensures)
           ∙ number-piece a.width a.low a.high a.bytes.now a.at 1 k c.requires.2,
       search rules,
     )
 
-pub returns-in-Outside : goal.returns-in-Outside
-returns-in-Outside c =
+pub returns-in-Err-Outside : goal.returns-in-Err-Outside
+returns-in-Err-Outside c =
     let a = c.args in
     let k = number_of a.wrong in (
-      bad-seen k 0 a.at (ne_eqb k 0 (omega arith)) ∙ ap (read_of 1 k a.width a.at) c.in-Outside.ensures
+      bad-seen k 0 a.at (ne_eqb k 0 (omega arith)) ∙ ap (read_of 1 k a.width a.at) (rw c.in-Err-Outside.field-0-is at c.in-Err-Outside.ensures)
           ∙ number-piece a.width a.low a.high a.bytes.now a.at 1 k c.requires.2,
       search rules,
     )
 
-pub returns-in-Value : goal.returns-in-Value
-returns-in-Value c =
+pub returns-in-Ok : goal.returns-in-Ok
+returns-in-Ok c =
     let a = c.args in
     let k = number_of a.wrong in (
-      got-seen c.in-Value.value (a.at + a.width) ∙ ap (read_of 1 k a.width a.at) c.in-Value.ensures
+      got-seen c.in-Ok.value (a.at + a.width) ∙ ap (read_of 1 k a.width a.at) c.in-Ok.ensures
           ∙ number-piece a.width a.low a.high a.bytes.now a.at 1 k c.requires.2,
-      (number-value a.width a.low a.high a.bytes.now a.at c.in-Value.value (sym c.in-Value.ensures)).2,
+      (number-value a.width a.low a.high a.bytes.now a.at c.in-Ok.value (sym c.in-Ok.ensures)).2,
     )
