@@ -25,7 +25,7 @@ use Rattle.forms.specs.Views.{number_read, read_of, seen}
 use Rattle.forms.specs.declared.NumberFault.{NumberFault}
 use Rattle.forms.specs.declared.NumberFault.TheVariants.{CutShort, Outside}
 use Rattle.std.specs.Prelude.{Ok, Err}
-use Rattle.forms.proofs.Pieces.{piece-same, piece-got, piece_short, piece_is, bad-seen, seen_right, outside-none, number-piece}
+use Rattle.forms.proofs.Pieces.{piece-same, piece-got, piece_short, piece_is, seen_right, outside-none, number-piece}
 use Rattle.forms.proofs.Sections.{entries_go, entries_stop, entries_end}
 use Rattle.detections.specs.declared.Stamp.{Stamp}
 use Rattle.detections.specs.Findings.{stamp}
@@ -44,12 +44,9 @@ module _ (b : List ℕ) (at low high : ℕ) where
 pub stamp-value : (b : List ℕ) (at l t : ℕ) → l ≡ value_at 2 b at → t ≡ value_at 8 b (at + 2) → record { logger = l; tick = record { 0 = t } } ≡ stamp.value b at
 stamp-value b at l t e f = λ i. record { logger = e i; tick = record { 0 = f i } }
 
--- one that is complete, and one that is not
+-- one that is complete
 pub stamp-read : (b : List ℕ) (at : ℕ) (v : Stamp) → at + 10 ≤ length b → v ≡ stamp.value b at → seen 0 v (at + 10) ≡ piece stamp 1 (λ s. 0) b at
 stamp-read b at v h e = seen_right stamp 1 (λ s. 0) b at v h e refl
-
-pub stamp-cut : (b : List ℕ) (at : ℕ) (v : Stamp) → length b < at + 10 → seen 1 v at ≡ piece stamp 1 (λ s. 0) b at
-stamp-cut b at v h = bad-seen 1 v at refl ∙ sym (piece_short stamp 1 (λ s. 0) b at h)
 
 -- ---- events
 -- a number above all elements comes after them
