@@ -3,6 +3,7 @@ use mathlib.Core.Bool.{true, false}
 use mathlib.Core.List.{List}
 use mathlib.Core.Path.{◌≡◌, refl, sym, ap, subst, ◌∙◌}
 use Prim.Native.Nat.{ℕ, ◌≤◌}
+use Rattle.std.specs.Prelude.{Ok, Err}
 use lib.Dec.{eqb}
 use lib.ListN.{take}
 use Rattle.timestamps.specs.Order.{Clocks}
@@ -18,7 +19,9 @@ use Rattle.passages.specs.Faults.{number_of as passage_number}
 use Rattle.passages.specs.Reader.{read_passage}
 use Rattle.passages.specs.Views.{Checked, Noted, RisingByPlace, check_of, counted, held_events}
 use Rattle.passages.specs.declared.Event.{Event}
-use Rattle.passages.specs.declared.PassageCheck.{PassageCheck}
+use Rattle.passages.specs.declared.PassageFault.{PassageFault}
+use Rattle.passages.specs.declared.PassageFault.TheVariants.{CutShort, EventCount, Kind, Logger, Tick, BytesRemain}
+use Rattle.passages.specs.declared.PassageRefusal.{PassageRefusal}
 use Rattle.progress.specs.Progress.{run_of}
 use Rattle.detector.specs.Steps.{Ran}
 use Rattle.detector.specs.declared.Run.{Run}
@@ -35,23 +38,27 @@ read_held b r loggers kinds nodes B e l k n s = record { loggers-most = l; kinds
         let ok = accepted_ok b B (sym (ap (λ (a : PlanAnswer). a.number) e) ∙ z) in
         (subst (λ (a : PlanAnswer). RisingByPlace a.plan.kinds) (sym e) ok.kinds.rising, subst (λ (a : PlanAnswer). RisingByPlace a.plan.loggers) (sym e) ok.loggers.rising)
 
+-- each fault of a passage has a number that is not 0
+a_number : (f : PassageFault) → eqb (passage_number f) 0 ≡ false
+a_number CutShort = refl
+a_number EventCount = refl
+a_number Kind = refl
+a_number Logger = refl
+a_number Tick = refl
+a_number BytesRemain = refl
+
 -- under what reading the plan answers
 module _ (room : ℕ) (passage : List ℕ) (a : PlanAnswer) where
   pub plan-refused : eqb a.number 0 ≡ false → plan_worked room passage a ≡ turned_back a.number a.place
   plan-refused e = rw e
 
-  module _ (accepted : eqb a.number 0 ≡ true) (c : PassageCheck) (checked : check_of c ≡ counted (read_passage a.plan passage)) where
-    same_number : passage_number c.fault ≡ (read_passage a.plan passage).number
-    same_number = ap (λ (x : Checked). x.number) checked
+  module _ (accepted : eqb a.number 0 ≡ true) where
+    module _ (r : PassageRefusal) (checked : check_of (Err r) ≡ counted (read_passage a.plan passage)) where
+      pub passage-refused : plan_worked room passage a ≡ turned_back (passage_number r.fault) r.place
+      passage-refused = rw (accepted, ← ap (λ (x : Checked). x.number) checked, ← ap (λ (x : Checked). x.place) checked, a_number r.fault)
 
-    same_place : c.place ≡ (read_passage a.plan passage).place
-    same_place = ap (λ (x : Checked). x.place) checked
-
-    pub passage-refused : eqb (passage_number c.fault) 0 ≡ false → plan_worked room passage a ≡ turned_back (passage_number c.fault) c.place
-    passage-refused e = rw (accepted, ← same_number, ← same_place, e)
-
-    pub both-accepted : eqb (passage_number c.fault) 0 ≡ true → plan_worked room passage a ≡ end_of (run_of room a.plan (passage_events a.plan passage))
-    both-accepted e = rw (accepted, ← same_number, e)
+    pub both-accepted : (count : ℕ) → check_of (Ok count) ≡ counted (read_passage a.plan passage) → plan_worked room passage a ≡ end_of (run_of room a.plan (passage_events a.plan passage))
+    both-accepted count checked = rw (accepted, ← ap (λ (x : Checked). x.number) checked)
 
 -- the events that the check notes: they are noted as themselves, and the run over them is the passage's
 module _ (clocks : Clocks) (events : List Event) (count : ℕ) (kinds loggers ticks globals : List ℕ) (noted : Noted clocks events count kinds loggers ticks globals) where

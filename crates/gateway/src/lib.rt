@@ -298,16 +298,16 @@ fn work_under(
         ticks,
         globals,
     );
-    let passage_fault = check.fault;
-    if !passage_fault.is_none() {
-        return turned_back(passage_fault.number(), check.place);
-    }
+    let count = match check {
+        Ok(count) => count,
+        Err(refusal) => return turned_back(refusal.fault.number(), refusal.place),
+    };
     let numbers = detector::numbers_by_place(loggers, l);
     let run = run_in_rows(
         &numbers,
         nodes,
         read.node_count,
-        check.count,
+        count,
         &kind_places,
         &logger_places,
         ticks,

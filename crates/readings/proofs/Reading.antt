@@ -1,6 +1,6 @@
 -- The reader's sections and its whole: what each place of the code needs.
 use mathlib.Core.Path.{◌≡◌, refl, sym, ap, ◌∙◌}
-use mathlib.Core.Bool.{Bool, true, false, ◌&&◌, and-true, and-false, and_assoc}
+use mathlib.Core.Bool.{Bool, ◌&&◌, and-true, and-false, and_assoc}
 use mathlib.Core.List.Memᴰ
 use mathlib.Core.List.{List, [], ◌∷◌, ◌++◌}
 use mathlib.Core.Logic.{⊎_elim, inl, inr}
@@ -20,55 +20,33 @@ use Rattle.event_sets.specs.Sets.{no_events, marked_with, elements}
 use Rattle.event_sets.proofs.Members.{elements-none, elements-marked, elements-rising}
 use Rattle.forms.specs.Bytes.{value_at}
 use Rattle.forms.specs.Forms.{number}
-use Rattle.forms.specs.Sections.{outside, Read, got, bad, piece, Section, entries, section}
+use Rattle.forms.specs.Sections.{outside, Read, got, bad, piece, entries, section}
 use Rattle.forms.specs.Views.{number_read, read_of, seen}
-use Rattle.forms.specs.declared.NumberRead.{NumberRead}
-use Rattle.forms.specs.declared.NumberRead.TheVariants.{CutShort, Outside, Value}
-use Rattle.forms.proofs.Pieces.{piece-same, piece-got, piece_short, piece_is, seen-got, seen-bad, got-seen, bad-seen, seen_right, outside-none, number-piece, number-value}
-use Rattle.forms.proofs.Sections.{entries_go, entries_stop, entries_end, count_stop, count_go}
+use Rattle.forms.specs.declared.NumberFault.{NumberFault}
+use Rattle.forms.specs.declared.NumberFault.TheVariants.{CutShort, Outside}
+use Rattle.std.specs.Prelude.{Ok, Err}
+use Rattle.forms.proofs.Pieces.{piece-same, piece-got, piece_short, piece_is, seen_right, outside-none, number-piece}
+use Rattle.forms.proofs.Sections.{entries_go, entries_stop, entries_end}
 use Rattle.detections.specs.declared.Stamp.{Stamp}
 use Rattle.detections.specs.Findings.{stamp}
 use Rattle.readings.specs.Reader.{stamp_section, event_section, finding_at, found, not_found, read_finding}
-use Rattle.readings.specs.Steps.{fault_of}
 
 -- ---- a number, as `forms` reads it
-module _ (b : List ℕ) (at low high : ℕ) (r : NumberRead) (e : r ≡ number_read 2 low high b at) where
-  judged_by : read_of 1 1 2 at r ≡ piece (number 2) 1 (outside low high 1) b at
-  judged_by = ap (read_of 1 1 2 at) e ∙ number-piece 2 low high b at 1 1 (omega arith)
+module _ (b : List ℕ) (at low high : ℕ) where
+  pub number-got : (v : ℕ) → Ok v ≡ number_read 2 low high b at → got v (at + 2) ≡ piece (number 2) 1 (outside low high 1) b at
+  number-got v e = ap (read_of 1 1 2 at) e ∙ number-piece 2 low high b at 1 1 (omega arith)
 
-  pub number_cut : r ≡ CutShort → seen 1 0 at ≡ piece (number 2) 1 (outside low high 1) b at
-  number_cut f = bad-seen 1 0 at refl ∙ ap (read_of 1 1 2 at) (sym f) ∙ judged_by
-
-  pub number_over : r ≡ Outside → seen 1 0 at ≡ piece (number 2) 1 (outside low high 1) b at
-  number_over f = bad-seen 1 0 at refl ∙ ap (read_of 1 1 2 at) (sym f) ∙ judged_by
-
-  pub number_read_lem : (v : ℕ) → r ≡ Value v → seen 0 v (at + 2) ≡ piece (number 2) 1 (outside low high 1) b at
-  number_read_lem v f = got-seen v (at + 2) ∙ ap (read_of 1 1 2 at) (sym f) ∙ judged_by
-
-  pub number_known : (v : ℕ) → r ≡ Value v → (at + 2 ≤ length b) × (v ≤ high)
-  number_known v f = let k = number-value 2 low high b at v (sym e ∙ f) in (k.0, k.2)
-
--- ---- a section's count, with the one fault
-module _ {A : Type 0} (s : Section A) (b : List ℕ) (start : ℕ) (whole : Bool) (n next : ℕ)
-    (count : seen (fault_of whole) n next ≡ piece (number 2) s.cut (outside s.least s.most s.count_fault) b start) where
-  pub count_broken : whole ≡ false → (l : List A) → seen 1 l next ≡ section s b start
-  count_broken e l =
-      let k : fault_of whole ≡ 1 = rw e in
-      ap (λ f. seen f l next) (sym k) ∙ count_stop s b start (fault_of whole) n next count (rw e) l
-
-  pub count-begun : whole ≡ true → entries s (n - 0) [] b next ≡ section s b start
-  count-begun e = count_go s b start (fault_of whole) n next count (rw e)
+  pub number-bad : (f : NumberFault) → Err f ≡ number_read 2 low high b at → bad 1 at ≡ piece (number 2) 1 (outside low high 1) b at
+  number-bad CutShort e = ap (read_of 1 1 2 at) e ∙ number-piece 2 low high b at 1 1 (omega arith)
+  number-bad Outside e = ap (read_of 1 1 2 at) e ∙ number-piece 2 low high b at 1 1 (omega arith)
 
 -- ---- stamps
 pub stamp-value : (b : List ℕ) (at l t : ℕ) → l ≡ value_at 2 b at → t ≡ value_at 8 b (at + 2) → record { logger = l; tick = record { 0 = t } } ≡ stamp.value b at
 stamp-value b at l t e f = λ i. record { logger = e i; tick = record { 0 = f i } }
 
--- one that is complete, and one that is not
+-- one that is complete
 pub stamp-read : (b : List ℕ) (at : ℕ) (v : Stamp) → at + 10 ≤ length b → v ≡ stamp.value b at → seen 0 v (at + 10) ≡ piece stamp 1 (λ s. 0) b at
 stamp-read b at v h e = seen_right stamp 1 (λ s. 0) b at v h e refl
-
-pub stamp-cut : (b : List ℕ) (at : ℕ) (v : Stamp) → length b < at + 10 → seen 1 v at ≡ piece stamp 1 (λ s. 0) b at
-stamp-cut b at v h = bad-seen 1 v at refl ∙ sym (piece_short stamp 1 (λ s. 0) b at h)
 
 -- ---- events
 -- a number above all elements comes after them
@@ -113,27 +91,22 @@ pub record NextEvent (b : List ℕ) (s : EventSet) (at v next : ℕ) : Type 0 wh
   pub more : elements (marked_with s v) ≡ elements s ++ (v ∷ [])
   pub least : Least (elements (marked_with s v)) (v + 1)
 
-module _ (b : List ℕ) (s : EventSet) (least at : ℕ) (h : Least (elements s) least) (whole : Bool) (v next : ℕ)
-    (e : seen (fault_of whole) v next ≡ piece (number 2) 1 (outside least 127 1) b at) where
-  pub event-read : whole ≡ true → NextEvent b s at v next
-  event-read z =
-      let g = seen-got (fault_of whole) v next _ e (rw z) in
-      let r = outside-none least 127 v 1 (omega arith) (piece-got (number 2) 1 (outside least 127 1) b at v next g).right in
+module _ (b : List ℕ) (s : EventSet) (least at : ℕ) (h : Least (elements s) least) where
+  pub event-read : (v next : ℕ) → got v next ≡ piece (number 2) 1 (outside least 127 1) b at → NextEvent b s at v next
+  event-read v next g =
+      let r = outside-none least 127 v 1 (omega arith) (piece-got (number 2) 1 (outside least 127 1) b at v next (sym g)).right in
       let m = elements-more s v (omega (arith, r.1)) (λ j i. ltb-true j v (all_of (λ m. ltb m v) (elements s) (h v ∙ le-leb least v r.0) i)) in
       record {
-        is = sym (event-piece b (elements s) at least h) ∙ g;
+        is = sym (event-piece b (elements s) at least h) ∙ sym g;
         more = m;
         least = rw m (least_more (elements s) least v h r.0);
       }
 
-  event_broken : whole ≡ false → piece (number 2) 1 (event_section.entry_fault (elements s)) b at ≡ bad 1 next
-  event_broken z =
-      let k : fault_of whole ≡ 1 = rw z in
-      sym (event-piece b (elements s) at least h) ∙ seen-bad (fault_of whole) v next _ e (rw z) ∙ ap (λ f. bad f next) k
-
   -- of n events i are read, and the next one is not
-  pub events_stop : (n i : ℕ) (r : Read (List ℕ)) → i < n → entries event_section (n - i) (elements s) b at ≡ r → whole ≡ false → (l : List ℕ) → seen 1 l next ≡ r
-  events_stop n i r k inv z l = bad-seen 1 l next refl ∙ sym (entries_stop event_section b n i (elements s) at 1 next k (event_broken z)) ∙ inv
+  pub events_stop : (place n i : ℕ) (r : Read (List ℕ)) → bad 1 place ≡ piece (number 2) 1 (outside least 127 1) b at
+      → i < n → entries event_section (n - i) (elements s) b at ≡ r → bad 1 place ≡ r
+  events_stop place n i r e k inv =
+      sym (entries_stop event_section b n i (elements s) at 1 place k (sym (event-piece b (elements s) at least h) ∙ sym e)) ∙ inv
 
 -- ---- a loop that marks the events in a set: of n, i are read
 pub events-none : (s : EventSet) → s ≡ no_events → (elements s ≡ []) × Least (elements s) 0
@@ -150,8 +123,8 @@ module _ (b : List ℕ) (n i : ℕ) (s : EventSet) (at : ℕ) (r : Read (List �
     rw (e, N.more) (sym (entries_go event_section b n i (elements s) at v next h N.is) ∙ inv),
   )
 
-  pub events_done : n ≤ i → seen 0 (elements s) at ≡ r
-  events_done h = got-seen (elements s) at ∙ sym (entries_end event_section b n i (elements s) at h) ∙ inv
+  pub events_done : n ≤ i → got (elements s) at ≡ r
+  events_done h = sym (entries_end event_section b n i (elements s) at h) ∙ inv
 
 -- ---- the whole
 module _ (b : List ℕ) (at : ℕ) where
@@ -163,16 +136,15 @@ module _ (b : List ℕ) (at : ℕ) where
     node-got : piece (number 2) 1 (λ node. 0) b at ≡ got node (at + 2)
     node-got = piece_is (number 2) 1 (λ node. 0) b at node h (sym e) refl
 
-    module _ (sw : Bool) (ss : List Stamp) (at₂ : ℕ) (s : seen (fault_of sw) ss at₂ ≡ section stamp_section b (at + 2)) where
-      pub bad-stamps : sw ≡ false → not_found at₂ ≡ read_finding b at
+    pub bad-stamps : (place : ℕ) → bad 1 place ≡ section stamp_section b (at + 2) → not_found place ≡ read_finding b at
+    unfolding read_finding finding_at
+    bad-stamps place s = rw (node-got, sym s)
+
+    module _ (ss : List Stamp) (at₂ : ℕ) (s : got ss at₂ ≡ section stamp_section b (at + 2)) where
+      pub bad-events : (place : ℕ) → bad 1 place ≡ section event_section b at₂ → not_found place ≡ read_finding b at
       unfolding read_finding finding_at
-      bad-stamps z = rw (node-got, seen-bad (fault_of sw) ss at₂ _ s (rw z))
+      bad-events place t = rw (node-got, sym s, sym t)
 
-      module _ (y : sw ≡ true) (ew : Bool) (es : List ℕ) (at₃ : ℕ) (t : seen (fault_of ew) es at₃ ≡ section event_section b at₂) where
-        pub bad-events : ew ≡ false → not_found at₃ ≡ read_finding b at
-        unfolding read_finding finding_at
-        bad-events z = rw (node-got, seen-got (fault_of sw) ss at₂ _ s (rw y), seen-bad (fault_of ew) es at₃ _ t (rw z))
-
-        pub whole-finding : ew ≡ true → found (record { node = node; stamps = ss; events = es }) at₃ ≡ read_finding b at
-        unfolding read_finding finding_at
-        whole-finding z = rw (node-got, seen-got (fault_of sw) ss at₂ _ s (rw y), seen-got (fault_of ew) es at₃ _ t (rw z))
+      pub whole-finding : (es : List ℕ) (at₃ : ℕ) → got es at₃ ≡ section event_section b at₂ → found (record { node = node; stamps = ss; events = es }) at₃ ≡ read_finding b at
+      unfolding read_finding finding_at
+      whole-finding es at₃ t = rw (node-got, sym s, sym t)

@@ -1,12 +1,9 @@
 -- What the functions compute step by step. Readers of the promises need none of these.
-use Rattle.std.specs.Prelude.{ℕ, Bool}
-use Rattle.sequences.specs.Choice.{pick}
-use Rattle.detections.specs.declared.Stamp.{Stamp}
+use Rattle.std.specs.Prelude.{ℕ, Result, Ok, Err}
+use Rattle.forms.specs.Sections.{Read, got, bad}
+use Rattle.readings.specs.declared.NoFinding.{NoFinding}
 
--- the reader's fault
-abbrev pub fault_of : Bool → ℕ
-fault_of whole = pick whole 0 1
-
--- stands for a stamp where there is none
-abbrev pub no_stamp : Stamp
-no_stamp = record { logger = 0; tick = record { 0 = 0 } }
+-- a value and the place after it, as what it stands for; or the reader's one fault, at its place
+abbrev pub read_as : {A B : Type 0} → (A → B) → Result (A × ℕ) NoFinding → Read B
+read_as f (Ok r) = got (f r.0) r.1
+read_as f (Err e) = bad 1 e.place

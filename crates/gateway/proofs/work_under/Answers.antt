@@ -1,6 +1,5 @@
 -- Turned back, or the run.
 use Rattle.gateway.proofs.Working.{both-accepted, noted_themselves, passage-refused, plan-refused, ran_noted}
-use Rattle.passages.specs.Faults.{number_of}
 use Rattle.plans.specs.Layout.{plan_clocks}
 use Rattle.plans.specs.Views.{answer_of}
 use Rattle.working.proofs.Answers.{answers_same}
@@ -43,35 +42,30 @@ check_passage-check-requires c =
       s.requires.2,
     )
 
-pub returns-then-not-is_none-2 : goal.returns-then-not-is_none-2
-returns-then-not-is_none-2 c =
+pub returns-in-Err : goal.returns-in-Err
+returns-in-Err c =
     let s = c in
     let a = answer_of s.args.read s.args.loggers.now s.args.kinds.now s.args.nodes.now in
     let fine : eqb a.number 0 ≡ true = sym c.is_none.ensures ∙ c.if-not-is_none.false in
-    let q = c.check_passage-check in
-    let checked = q.ensures a.plan refl refl refl in
+    let refusal = c.in-Err.refusal in
+    let checked = c.in-Err.ensures a.plan refl refl refl in
     answers_same _ _ _ _ _
-    (passage-refused _ _ a fine q.result checked.0 (sym c.is_none-2.ensures ∙ c.if-not-is_none-2.true)
-    ∙ ap (λ n. turned_back n q.result.place) (sym c.number-then-not-is_none-2.ensures))
-    (c.turned_back-then-not-is_none-2.ensures _)
+    (passage-refused _ _ a fine refusal checked.0 ∙ ap (λ n. turned_back n refusal.place) (sym c.number-in-Err.ensures))
+    (c.turned_back-in-Err.ensures _)
 
 pub run_in_rows-run-requires : goal.run_in_rows-run-requires
 run_in_rows-run-requires c =
     let s = c in
     let a = answer_of s.args.read s.args.loggers.now s.args.kinds.now s.args.nodes.now in
-    let q = c.check_passage-check in
-    let checked = q.ensures a.plan refl refl refl in
-    let passed : number_of q.result.fault ≡ 0 = eqb-true _ _ (sym c.is_none-2.ensures ∙ c.if-not-is_none-2.false) in
-    (s.requires.0.nodes-most, (plan_clocks a.plan, noted_themselves _ _ _ _ _ _ _ (checked.1 passed)), s.requires.0.slotted)
+    let checked = c.in-Ok.ensures a.plan refl refl refl in
+    (s.requires.0.nodes-most, (plan_clocks a.plan, noted_themselves _ _ _ _ _ _ _ checked.1), s.requires.0.slotted)
 
 pub returns : goal.returns
 returns c =
     let s = c in
     let a = answer_of s.args.read s.args.loggers.now s.args.kinds.now s.args.nodes.now in
     let fine : eqb a.number 0 ≡ true = sym c.is_none.ensures ∙ c.if-not-is_none.false in
-    let q = c.check_passage-check in
-    let checked = q.ensures a.plan refl refl refl in
-    let passed : number_of q.result.fault ≡ 0 = eqb-true _ _ (sym c.is_none-2.ensures ∙ c.if-not-is_none-2.false) in
+    let checked = c.in-Ok.ensures a.plan refl refl refl in
     answers_same _ _ _ _ _
-    (both-accepted _ _ a fine q.result checked.0 (rw passed))
-    (c.ended.ensures _ _ _ (ran_noted _ _ _ _ _ _ _ (checked.1 passed) a.plan _ _ _ (c.run_in_rows-run.ensures a.plan c.numbers_by_place-numbers.ensures refl (noted_themselves _ _ _ _ _ _ _ (checked.1 passed)))))
+    (both-accepted _ _ a fine _ checked.0)
+    (c.ended.ensures _ _ _ (ran_noted _ _ _ _ _ _ _ checked.1 a.plan _ _ _ (c.run_in_rows-run.ensures a.plan c.numbers_by_place-numbers.ensures refl (noted_themselves _ _ _ _ _ _ _ checked.1))))

@@ -1,37 +1,25 @@
 -- `readings::read`: the node, the stamps and the events in turn.
-use mathlib.Core.Path.{◌∙◌}
 use native.Mathlib.Omega.{arith}
-use lib.ListN.{take}
-use borrow.Author.Tests.{not-true, not-false}
-use Rattle.event_sets.specs.Sets.{elements}
+use Rattle.std.proofs.lemmas.Result.{err_from_is_err_and}
 use Rattle.readings.proofs.Reading.{node-cut, bad-stamps, bad-events, whole-finding}
 use Rattle.readings.proofs.read.Goals as goal
 
 pub returns-then-left-lt2 : goal.returns-then-left-lt2
-returns-then-left-lt2 c =
-    let a = c.args in
-    c.not_found.ensures ∙ node-cut a.bytes.now a.at (omega arith)
+returns-then-left-lt2 c = node-cut c.args.bytes.now c.args.at (omega arith)
 
-pub returns-then-not-stamps : goal.returns-then-not-stamps
-returns-then-not-stamps c =
-    let r = c.read_stamps-stamps in
+pub returns-in_err-stamps : goal.returns-in_err-stamps
+returns-in_err-stamps c =
     let a = c.args in
-    c.not_found-then-not-stamps.ensures
-    ∙ bad-stamps a.bytes.now a.at c.number_at-node.result (omega arith) c.number_at-node.ensures r.result.whole (take r.result.count r.result.stamps) r.result.next r.ensures (not-true _ c.if-not-stamps.true)
+    let (e, returned, is) = err_from_is_err_and c.from_residual.result c.from_residual.ensures.1 in
+    rw (returned, is) (bad-stamps a.bytes.now a.at c.number_at-node.result (omega arith) c.number_at-node.ensures _ c.in_err-stamps.ensures)
 
-pub returns-then-not-events : goal.returns-then-not-events
-returns-then-not-events c =
-    let q = c.read_events-events in
-    let r = c.read_stamps-stamps in
+pub returns-in_err-events : goal.returns-in_err-events
+returns-in_err-events c =
     let a = c.args in
-    c.not_found-then-not-events.ensures
-    ∙ bad-events a.bytes.now a.at c.number_at-node.result (omega arith) c.number_at-node.ensures r.result.whole (take r.result.count r.result.stamps) r.result.next r.ensures (not-false _ c.if-not-stamps.false)
-    q.result.whole (elements q.result.events) q.result.next q.ensures (not-true _ c.if-not-events.true)
+    let (e, returned, is) = err_from_is_err_and c.from_residual-in_err-events.result c.from_residual-in_err-events.ensures.1 in
+    rw (returned, is) (bad-events a.bytes.now a.at c.number_at-node.result (omega arith) c.number_at-node.ensures _ _ c.in_ok-stamps.ensures _ c.in_err-events.ensures)
 
 pub returns : goal.returns
 returns c =
-    let q = c.read_events-events in
-    let r = c.read_stamps-stamps in
     let a = c.args in
-    whole-finding a.bytes.now a.at c.number_at-node.result (omega arith) c.number_at-node.ensures r.result.whole (take r.result.count r.result.stamps) r.result.next r.ensures (not-false _ c.if-not-stamps.false)
-    q.result.whole (elements q.result.events) q.result.next q.ensures (not-false _ c.if-not-events.false)
+    whole-finding a.bytes.now a.at c.number_at-node.result (omega arith) c.number_at-node.ensures _ _ c.in_ok-stamps.ensures _ _ c.in_ok-events.ensures

@@ -1,50 +1,43 @@
--- `readings::read_stamps`: the count, and a loop: the stamps that are left, read from here after those held, are all of them.
-use mathlib.Core.Path.{refl, ◌∙◌}
-use mathlib.Core.List.{[]}
+-- `readings::read_stamps`: the count, and a stamp more with each turn.
+use mathlib.Core.Path.{refl, sym, ◌∙◌}
 use Prim.Native.Nat.{◌+◌, ◌≤◌, ◌<◌}
 use native.Mathlib.Omega.{arith}
-use lib.ListN.{length, length-set}
-use borrow.Author.Tests.{not-true, not-false}
-use Rattle.forms.proofs.Sections.{turn_go, turn_stop, turn_end}
+use lib.ListN.{length, length-set, take}
+use Rattle.std.proofs.lemmas.Result.{err_from_is_err_and}
+use Rattle.forms.proofs.Pieces.{got-seen, piece_short}
+use Rattle.forms.proofs.Sections.{entries_stop, section_go, section_stop, turn_go, turn_end}
+use Rattle.detections.specs.Findings.{stamp}
 use Rattle.readings.specs.Reader.{stamp_section}
-use Rattle.readings.specs.Steps.{no_stamp}
-use Rattle.readings.proofs.Reading.{count_broken, count-begun, stamp-read, stamp-cut}
-use borrow.Author.Rules.{rules}
+use Rattle.readings.proofs.Reading.{stamp-read}
 use Rattle.readings.proofs.read_stamps.Goals as goal
 
-pub returns-then-not-counted : goal.returns-then-not-counted
-returns-then-not-counted c =
-    let r = c.read_u16-counted in
-    let a = c.args in
-    count_broken stamp_section a.bytes.now a.start r.result.whole r.result.value r.result.next r.ensures.0 (not-true _ c.if-not-counted.true) []
+pub returns-in_err-counted : goal.returns-in_err-counted
+returns-in_err-counted c =
+    let (e, returned, is) = err_from_is_err_and c.from_residual.result c.from_residual.ensures.1 in
+    rw (returned, is) (sym (section_stop stamp_section c.args.bytes.now c.args.start 1 _ (sym c.in_err-counted.ensures.is)))
 
 pub loop-i-init : goal.loop-i-init
-loop-i-init c = (search rules, refl, refl)
+loop-i-init c = record { slots = refl; rest = section_go stamp_section c.args.bytes.now c.args.start _ _ (sym c.in_ok-counted.ensures.is) }
 
 pub returns-then-left-lt-STAMP_WIDTH : goal.returns-then-left-lt-STAMP_WIDTH
 returns-then-left-lt-STAMP_WIDTH c =
-    let r = c.read_u16-counted in
-    let a = c.args in
-    let b = a.bytes.now in
-    turn_stop stamp_section b r.result.value c.loop-i.i c.loop-i.stamps c.loop-i.at _ c.loop-i.invariant.2 1 no_stamp c.loop-i.at (search rules) (stamp-cut b c.loop-i.at no_stamp (omega arith)) refl []
-    ∙ count-begun stamp_section b a.start r.result.whole r.result.value r.result.next r.ensures.0 (not-false _ c.if-not-counted.false)
+    let b = c.args.bytes.now in
+    let l = c.loop-i in
+    let cut = piece_short stamp 1 (λ s. 0) b l.at (omega arith) in
+    sym (entries_stop stamp_section b _ l.i (take l.i l.slots) l.at 1 l.at c.loop-i-test.true cut) ∙ l.invariant.rest
 
 pub loop-i-preserved : goal.loop-i-preserved
 loop-i-preserved c =
-    let a = c.args in
-    let b = a.bytes.now in
-    let r = c.read_u16-counted in
-    let h : c.loop-i.at + 10 ≤ length b = omega arith in
-    let j : c.loop-i.i < length c.loop-i.stamps = omega arith in (
-      search rules,
-      simp length-set (omega arith),
-      turn_go stamp_section b r.result.value c.loop-i.i c.loop-i.stamps c.loop-i.at _ c.loop-i.invariant.2 0 c.stamp_at.result (c.loop-i.at + 10) (search rules) j (stamp-read b c.loop-i.at c.stamp_at.result h c.stamp_at.ensures) refl,
-    )
+    let b = c.args.bytes.now in
+    let l = c.loop-i in
+    let h : l.at + 10 ≤ length b = omega arith in
+    let j : l.i < length l.slots = omega (arith, l.invariant.slots, c.in_ok-counted.ensures.within) in
+    record {
+      slots = simp length-set l.invariant.slots;
+      rest = turn_go stamp_section b _ l.i l.slots l.at _ l.invariant.rest 0 c.stamp_at.result (l.at + 10) c.loop-i-test.true j (stamp-read b l.at c.stamp_at.result h c.stamp_at.ensures) refl;
+    }
 
 pub returns : goal.returns
 returns c =
-    let r = c.read_u16-counted in
-    let a = c.args in
-    let b = a.bytes.now in
-    turn_end stamp_section b r.result.value c.loop-i.i c.loop-i.stamps c.loop-i.at _ c.loop-i.invariant.2 (omega arith)
-    ∙ count-begun stamp_section b a.start r.result.whole r.result.value r.result.next r.ensures.0 (not-false _ c.if-not-counted.false)
+    let l = c.loop-i in
+    sym (got-seen _ l.at) ∙ turn_end stamp_section c.args.bytes.now _ l.i l.slots l.at _ l.invariant.rest (omega arith)

@@ -1,31 +1,22 @@
 -- `readings::read_u16`: what `forms` read, with one fault.
-use mathlib.Core.Path.{refl}
+use mathlib.Core.Path.{sym}
 use native.Mathlib.Omega.{arith}
-use Rattle.forms.specs.declared.NumberRead.TheVariants.{CutShort, Outside, Value}
-use Rattle.readings.proofs.Reading.{number_cut, number_over, number_read_lem, number_known}
-use borrow.Author.Rules.{rules}
+use Rattle.forms.proofs.Pieces.{number-value}
+use Rattle.readings.proofs.Reading.{number-bad, number-got}
 use Rattle.readings.proofs.read_u16.Goals as goal
 
 pub overflow_add-result : goal.overflow_add-result
 overflow_add-result c =
     let a = c.args in
-    let v = c.in-Value in
-    omega (arith, (number_known a.bytes.now a.at a.low a.high (Value v.value) v.ensures v.value refl).0)
+    omega (arith, (number-value 2 a.low a.high a.bytes.now a.at c.in-Ok.value (sym c.in-Ok.ensures)).0)
 
-pub returns-in-CutShort : goal.returns-in-CutShort
-returns-in-CutShort c =
-    let a = c.args in
-    (number_cut a.bytes.now a.at a.low a.high CutShort c.in-CutShort.ensures refl, search rules)
+pub returns-in-Ok-clause-is : goal.returns-in-Ok-clause-is
+returns-in-Ok-clause-is c = number-got c.args.bytes.now c.args.at c.args.low c.args.high c.in-Ok.value c.in-Ok.ensures
 
-pub returns-in-Outside : goal.returns-in-Outside
-returns-in-Outside c =
+pub returns-in-Ok-clause-within : goal.returns-in-Ok-clause-within
+returns-in-Ok-clause-within c =
     let a = c.args in
-    (number_over a.bytes.now a.at a.low a.high Outside c.in-Outside.ensures refl, search rules)
+    (number-value 2 a.low a.high a.bytes.now a.at c.in-Ok.value (sym c.in-Ok.ensures)).2
 
-pub returns-in-Value : goal.returns-in-Value
-returns-in-Value c =
-    let a = c.args in
-    let v = c.in-Value in (
-      number_read_lem a.bytes.now a.at a.low a.high (Value v.value) v.ensures v.value refl,
-      (number_known a.bytes.now a.at a.low a.high (Value v.value) v.ensures v.value refl).1,
-    )
+pub returns-in-Err-clause-is : goal.returns-in-Err-clause-is
+returns-in-Err-clause-is c = number-bad c.args.bytes.now c.args.at c.args.low c.args.high _ c.in-Err.ensures
