@@ -5,7 +5,6 @@ pub mod Events
 pub mod FileEvents
 pub mod Joins
 pub mod Latest
-pub mod Notes
 pub mod Orders
 pub mod Packed
 pub mod Rows

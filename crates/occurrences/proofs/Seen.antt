@@ -11,7 +11,7 @@ use Rattle.timestamps.proofs.Stamps.{global}
 use Rattle.occurrences.specs.declared.Occurrence.{Occurrence}
 use Rattle.occurrences.specs.Packed.{Names, Notes, NotesOf, Sound, Stands, Within, byte_at}
 use Rattle.occurrences.specs.Steps.{Lowest, note_at}
-use Rattle.occurrences.proofs.Notes.{length_ticks}
+use Rattle.timestamps.proofs.Notes.{length_ticks}
 use Rattle.occurrences.proofs.Views.{latest_in, stamp, stamps_in_lem, stamps_of_lem, stamps_in}
 
 -- ---- local notes v and global notes g by logger place, and the stamps l that they tell

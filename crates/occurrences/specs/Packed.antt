@@ -4,6 +4,7 @@ use Rattle.std.specs.Prelude.{◌≡◌, ℕ, ◌+◌, ◌-◌, ◌*◌, ◌/◌
 use Rattle.sequences.specs.Members.{◌is_in◌}
 use Rattle.timestamps.specs.declared.Note.{Note}
 use Rattle.timestamps.specs.declared.Timestamp.{Timestamp}
+use Rattle.timestamps.specs.Notes.{globals_of, ticks_of}
 use Rattle.timestamps.specs.Composite.{IsComposite, logger_places, members}
 use Rattle.timestamps.specs.Order.{Clocks, blank, global_of}
 use Rattle.occurrences.specs.declared.Occurrence.{Occurrence}
@@ -20,16 +21,7 @@ pub record Notes (ticks globals : List ℕ) : Type 0 where
   pub tick : (e : ℕ) → e < length stamps → slice_index ticks (e + 1) ≡ (get_or stamps e blank).tick.0 + 1
   pub global : (e : ℕ) → e < length stamps → slice_index globals (e + 1) ≡ (global_of clocks (slice_index_or stamps e blank)).0 + 1
 
--- as the code has it: a note for each event
-abbrev pub nothing_noted : Note
-nothing_noted = record { tick = 0; global = 0 }
-
-abbrev pub ticks_of : List Note → List ℕ
-ticks_of notes = map (λ n. n.tick) notes
-
-abbrev pub globals_of : List Note → List ℕ
-globals_of notes = map (λ n. n.global) notes
-
+-- as the code has them
 abbrev pub NotesOf : List Note → Type 0
 NotesOf notes = Notes (ticks_of notes) (globals_of notes)
 

@@ -2,7 +2,8 @@
 use Rattle.std.specs.Prelude.{◌≡◌, ℕ, ◌+◌, ◌-◌, ◌*◌, ◌^◌, ◌<◌, ◌≤◌, Bool, true, false, ◌⊎◌, List, length, ◌==◌, ◌≢◌, nat_lt, slice_index}
 use Rattle.sequences.specs.Choice.{pick}
 use Rattle.timestamps.specs.declared.Note.{Note}
-use Rattle.occurrences.specs.Packed.{byte_at, globals_of}
+use Rattle.occurrences.specs.Packed.{byte_at}
+use Rattle.timestamps.specs.Notes.{globals_of}
 
 -- what a table has of the event that a place's byte names
 abbrev pub note_at : List ℕ → ℕ → ℕ → ℕ

@@ -6,7 +6,8 @@ ghost use Rattle.std.specs.Prelude.{◌≡◌, ℕ, ◌+◌, ◌%◌, ◌^◌, �
 ghost use Rattle.occurrences.specs.declared.Occurrence.{Occurrence};
 ghost use Rattle.occurrences.specs.Combination.{combined_of};
 ghost use Rattle.occurrences.specs.Occurrences.{is_weakly_before, occurrence_order, of_event};
-ghost use Rattle.occurrences.specs.Packed.{Names, Notes, NotesOf, Stands, Within, byte_at, globals_of, ticks_of, words_of};
+ghost use Rattle.occurrences.specs.Packed.{Names, Notes, NotesOf, Stands, Within, byte_at, words_of};
+ghost use Rattle.timestamps.specs.Notes.{globals_of, ticks_of};
 ghost use Rattle.occurrences.specs.Steps.{Bytes, Highest, Inside, Lowest, LowestOf, Only, Settled};
 ghost use Rattle.occurrences.specs.Steps.{has_before, is_reached, kept_of, later_at, later_of, note_at, own_before};
 ghost use Rattle.timestamps.specs.Comparison.{all_before, stamps_weakly_before};

@@ -4,6 +4,7 @@ pub mod Examples
 pub mod Groupings
 pub mod Join
 pub mod Maxima
+pub mod Notes
 pub mod Stamps
 pub mod Steps
 pub mod Words

@@ -1,5 +1,5 @@
 -- The rest from place i on, combined with what there is, is the whole.
-use Rattle.occurrences.specs.Packed.{ticks_of, globals_of}
+use Rattle.timestamps.specs.Notes.{globals_of, ticks_of}
 use Rattle.std.proofs.Common.{◌+◌, ◌<◌, length, sym, ◌∙◌, subst, arith}
 use Rattle.contexts.proofs.Combines.{Combines, combines_end, combines_no, combines_yes}
 use Rattle.occurrences.proofs.Packed.{stands-within}

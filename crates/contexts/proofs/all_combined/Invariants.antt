@@ -1,5 +1,5 @@
 -- The rest from place i on, combined with what there is, is the whole.
-use Rattle.occurrences.specs.Packed.{ticks_of, globals_of}
+use Rattle.timestamps.specs.Notes.{globals_of, ticks_of}
 use Rattle.contexts.proofs.Combines.{Combines}
 use Rattle.waiting_lists.specs.Marks.{marks_of}
 use Rattle.contexts.proofs.all_combined.Given as goal

@@ -1,6 +1,7 @@
 -- Any finding fits where the largest does; else its counts make its size.
 use Rattle.std.proofs.Common.{sym, ap, ◌∙◌, leb, le-leb, arith}
-use Rattle.occurrences.specs.Packed.{occurrence_of, ticks_of}
+use Rattle.occurrences.specs.Packed.{occurrence_of}
+use Rattle.timestamps.specs.Notes.{ticks_of}
 use Rattle.detections.proofs.Findings.{finding-most, finding-size}
 use Rattle.detections.proofs.fits.Goals as goal
 

@@ -1,5 +1,5 @@
 -- The stamps that the bytes left name, written from here, make all of them.
-use Rattle.occurrences.specs.Packed.{ticks_of}
+use Rattle.timestamps.specs.Notes.{ticks_of}
 use native.Mathlib.Omega.{arith}
 use Rattle.detections.specs.Steps.{stamp_bytes}
 use Rattle.detections.proofs.LowestByte.{lowest-fewer, lowest-inside, lowest_named, lowest-place, lowest-within}

@@ -1,5 +1,5 @@
 -- The stamps that the bytes left name, written from here, make all of them.
-use Rattle.occurrences.specs.Packed.{ticks_of}
+use Rattle.timestamps.specs.Notes.{ticks_of}
 use Prim.Native.Nat.{◌^◌, ◌<◌}
 use Rattle.occurrences.specs.Steps.{Inside}
 use Rattle.detections.specs.Steps.{named_bytes}

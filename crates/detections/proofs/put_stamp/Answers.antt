@@ -1,7 +1,7 @@
 -- A stamp is its logger number and its tick; nothing is written where there is none.
 use Rattle.std.proofs.Common.{◌≡◌, ℕ}
-use Rattle.occurrences.specs.Packed.{ticks_of}
-use Rattle.occurrences.proofs.Notes.{tick_noted}
+use Rattle.timestamps.specs.Notes.{ticks_of}
+use Rattle.timestamps.proofs.Notes.{tick_noted}
 use Prim.Native.Nat.{◌<◌, ◌≤◌}
 use native.Mathlib.Omega.{arith}
 use lib.ListN.{get_or, length}

@@ -1,5 +1,5 @@
 -- The stamps, and then their count in front of them.
-use Rattle.occurrences.specs.Packed.{ticks_of}
+use Rattle.timestamps.specs.Notes.{ticks_of}
 use native.Mathlib.Omega.{arith}
 use Rattle.detections.specs.Findings.{stamp}
 use Rattle.detections.specs.Views.{written_stamps}

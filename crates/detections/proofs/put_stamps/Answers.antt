@@ -1,5 +1,5 @@
 -- The bytes of its packed number name its stamps.
-use Rattle.occurrences.specs.Packed.{ticks_of}
+use Rattle.timestamps.specs.Notes.{ticks_of}
 use Rattle.detections.proofs.Stamps.{named_start}
 use Rattle.detections.proofs.put_stamps.Goals as goal
 

@@ -1,6 +1,7 @@
 -- The count so far and what is left from place k on make the whole.
 use Rattle.std.proofs.Common.{arith, rules}
-use Rattle.occurrences.specs.Packed.{ticks_of, words_of}
+use Rattle.occurrences.specs.Packed.{words_of}
+use Rattle.timestamps.specs.Notes.{ticks_of}
 use Rattle.detections.proofs.Stamps.{count-start, count_turn, count_end}
 use Rattle.detections.proofs.timestamp_count.Goals as goal
 

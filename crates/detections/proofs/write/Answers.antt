@@ -1,5 +1,6 @@
 -- The node, the section of the stamps and the section of the events, one after the other.
-use Rattle.occurrences.specs.Packed.{from_words, occurrence_of, ticks_of, words_of}
+use Rattle.occurrences.specs.Packed.{from_words, occurrence_of, words_of}
+use Rattle.timestamps.specs.Notes.{ticks_of}
 use Rattle.detections.proofs.Findings.{all_done, events-room, node-room, stamps-room}
 use Rattle.detections.proofs.write.Goals as goal
 

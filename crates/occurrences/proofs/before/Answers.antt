@@ -1,8 +1,8 @@
 -- Each stamp of the second at a place before k has one before it.
 use Rattle.std.proofs.Common.{sym, ◌∙◌, arith}
-use Rattle.occurrences.specs.Packed.{ticks_of, globals_of}
+use Rattle.timestamps.specs.Notes.{globals_of, ticks_of}
 use Rattle.occurrences.proofs.Befores.{before-each, before-not, has_told}
-use Rattle.occurrences.proofs.Notes.{global_here, tick_here}
+use Rattle.timestamps.proofs.Notes.{global_here, tick_here}
 use Rattle.occurrences.proofs.Steps.{next_place}
 use Rattle.occurrences.proofs.before.Goals as goal
 

@@ -1,6 +1,6 @@
 -- Each stamp of the second at a place before k has one before it.
 use Rattle.std.proofs.Common.{◌≡◌, ℕ, ◌<◌, true}
-use Rattle.occurrences.specs.Packed.{ticks_of, globals_of}
+use Rattle.timestamps.specs.Notes.{globals_of, ticks_of}
 use Rattle.occurrences.proofs.Befores.{Both, has_at}
 use Rattle.occurrences.proofs.before.Given as goal
 

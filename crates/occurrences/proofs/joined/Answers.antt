@@ -1,9 +1,9 @@
 -- The later of two alone, or all places.
 use Rattle.std.proofs.Common.{◌+◌, ◌<◌, length, get_or, sym, ap, ◌∙◌, rules, ltb-true}
-use Rattle.occurrences.specs.Packed.{globals_of}
+use Rattle.timestamps.specs.Notes.{globals_of}
 use Rattle.occurrences.specs.Steps.{kept_of}
 use Rattle.occurrences.proofs.Joins.{later_one}
-use Rattle.occurrences.proofs.Notes.{global_noted}
+use Rattle.timestamps.proofs.Notes.{global_noted}
 use Rattle.occurrences.proofs.Single.{first_settled, only_inside, second_settled}
 use Rattle.timestamps.specs.Order.{clearly_earlier}
 use Rattle.occurrences.proofs.joined.Goals as goal

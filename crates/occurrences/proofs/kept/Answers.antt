@@ -2,7 +2,7 @@
 use Rattle.occurrences.specs.Steps.{kept_of}
 use Rattle.timestamps.specs.Order.{clearly_earlier}
 use Rattle.std.proofs.Common.{sym, ◌∙◌}
-use Rattle.occurrences.proofs.Notes.{global_noted}
+use Rattle.timestamps.proofs.Notes.{global_noted}
 use Rattle.occurrences.proofs.kept.Goals as goal
 
 pub returns-then-clearly_earlier : goal.returns-then-clearly_earlier

@@ -1,7 +1,7 @@
 -- By the two cases.
 use Rattle.occurrences.specs.Steps.{later_of}
 use Rattle.std.proofs.Common.{sym, ◌∙◌}
-use Rattle.occurrences.proofs.Notes.{tick_noted}
+use Rattle.timestamps.proofs.Notes.{tick_noted}
 use Rattle.occurrences.proofs.later_of.Goals as goal
 
 pub returns-then-earlier : goal.returns-then-earlier

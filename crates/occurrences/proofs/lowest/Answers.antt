@@ -1,8 +1,8 @@
 -- The only one's; or that of the first four places, and of the others where there are any.
 use Rattle.std.proofs.Common.{◌-◌, ◌^◌, get_or, sym, ap, ◌∙◌, arith, rules}
-use Rattle.occurrences.specs.Packed.{globals_of}
+use Rattle.timestamps.specs.Notes.{globals_of}
 use Rattle.occurrences.proofs.Bytes.{byte_further, byte_none, inside-first, inside-last}
-use Rattle.occurrences.proofs.Notes.{global_noted}
+use Rattle.timestamps.proofs.Notes.{global_noted}
 use Rattle.occurrences.proofs.Single.{only_inside, only_lowest}
 use Rattle.occurrences.proofs.Steps.{lowest_empty, lowest-more}
 use Rattle.occurrences.proofs.lowest.Goals as goal

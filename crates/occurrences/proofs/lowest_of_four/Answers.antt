@@ -1,7 +1,7 @@
 -- The number so far is the lowest at the places before k.
 use Rattle.std.proofs.Common.{◌≡◌, get_or, sym, ap, ◌∙◌, arith, rules}
-use Rattle.occurrences.specs.Packed.{globals_of}
-use Rattle.occurrences.proofs.Notes.{global_noted}
+use Rattle.timestamps.specs.Notes.{globals_of}
+use Rattle.timestamps.proofs.Notes.{global_noted}
 use Rattle.occurrences.proofs.Steps.{lowest_start, lowest_turn}
 use Rattle.occurrences.proofs.lowest_of_four.Goals as goal
 

@@ -1,5 +1,5 @@
 -- The number so far is the lowest at the places before k.
-use Rattle.occurrences.specs.Packed.{globals_of}
+use Rattle.timestamps.specs.Notes.{globals_of}
 use Rattle.occurrences.specs.Steps.{Lowest, note_at}
 use Rattle.occurrences.proofs.lowest_of_four.Given as goal
 

@@ -1,5 +1,5 @@
 -- Of the eight places; where the upper four have none, of the lower.
-use Rattle.occurrences.specs.Packed.{ticks_of, globals_of}
+use Rattle.timestamps.specs.Notes.{globals_of, ticks_of}
 use Rattle.occurrences.proofs.Bytes.{bytes-more, bytes-none, inside-first, inside-last, later_further, later-none}
 use Rattle.occurrences.proofs.Steps.{highest_level, highest-more}
 use Rattle.std.proofs.Common.{get_or, sym, ap, ◌∙◌, arith}

@@ -1,9 +1,9 @@
 -- The bytes before k name the later ones, and what is highest so far is the highest of these.
 use Rattle.std.proofs.Common.{◌≡◌, ◌<◌, max, length, get_or, sym, ap, ◌∙◌, arith, rules}
-use Rattle.occurrences.specs.Packed.{globals_of}
+use Rattle.timestamps.specs.Notes.{globals_of}
 use Rattle.occurrences.proofs.Bytes.{bytes-start, bytes_turn}
 use Rattle.occurrences.proofs.Joins.{later_one}
-use Rattle.occurrences.proofs.Notes.{global_noted}
+use Rattle.timestamps.proofs.Notes.{global_noted}
 use Rattle.occurrences.proofs.Steps.{highest-start, highest_turn}
 use Rattle.occurrences.proofs.merged_of_four.Goals as goal
 

@@ -1,6 +1,6 @@
 -- The bytes before k name the later ones, and h is the highest of these.
 use Rattle.std.proofs.Common.{get_or}
-use Rattle.occurrences.specs.Packed.{ticks_of, globals_of}
+use Rattle.timestamps.specs.Notes.{globals_of, ticks_of}
 use Rattle.occurrences.specs.Steps.{Bytes, Highest, later_at}
 use Rattle.occurrences.proofs.merged_of_four.Given as goal
 

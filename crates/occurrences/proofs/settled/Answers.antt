@@ -1,5 +1,5 @@
 -- Of the eight places; where the upper four have none, of the lower.
-use Rattle.occurrences.specs.Packed.{globals_of}
+use Rattle.timestamps.specs.Notes.{globals_of}
 use Rattle.occurrences.proofs.Bytes.{byte_further, byte_none, bytes-more, bytes-none, inside-first, inside-last, kept-none}
 use Rattle.occurrences.specs.Steps.{kept_of}
 use Rattle.std.proofs.Common.{ap, arith}

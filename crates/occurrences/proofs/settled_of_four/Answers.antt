@@ -1,6 +1,6 @@
 -- The bytes before k name those kept.
 use Rattle.std.proofs.Common.{◌≡◌, ◌<◌, ap, ◌∙◌, arith}
-use Rattle.occurrences.specs.Packed.{globals_of}
+use Rattle.timestamps.specs.Notes.{globals_of}
 use Rattle.occurrences.proofs.Bytes.{bytes-start, bytes_turn}
 use Rattle.occurrences.proofs.Joins.{kept_one}
 use Rattle.occurrences.specs.Steps.{kept_of}

@@ -1,5 +1,6 @@
 -- The bytes before k name those kept.
-use Rattle.occurrences.specs.Packed.{byte_at, globals_of}
+use Rattle.occurrences.specs.Packed.{byte_at}
+use Rattle.timestamps.specs.Notes.{globals_of}
 use Rattle.occurrences.specs.Steps.{Bytes, kept_of}
 use Rattle.occurrences.proofs.settled_of_four.Given as goal
 

@@ -1,8 +1,8 @@
 -- No stamp of the first at a place before k has one of the second before it.
 use Rattle.std.proofs.Common.{sym, ◌∙◌, arith}
-use Rattle.occurrences.specs.Packed.{ticks_of, globals_of}
+use Rattle.timestamps.specs.Notes.{globals_of, ticks_of}
 use Rattle.occurrences.proofs.Befores.{reached_told, weakly-each, weakly-not}
-use Rattle.occurrences.proofs.Notes.{global_here, tick_here}
+use Rattle.timestamps.proofs.Notes.{global_here, tick_here}
 use Rattle.occurrences.proofs.Steps.{next_place}
 use Rattle.occurrences.proofs.weakly_by_place.Goals as goal
 

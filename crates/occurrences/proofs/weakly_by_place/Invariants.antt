@@ -1,6 +1,6 @@
 -- No stamp of the first at a place before k has one of the second before it.
 use Rattle.std.proofs.Common.{◌≡◌, ℕ, ◌<◌, false}
-use Rattle.occurrences.specs.Packed.{ticks_of, globals_of}
+use Rattle.timestamps.specs.Notes.{globals_of, ticks_of}
 use Rattle.occurrences.proofs.Befores.{Both, reached_at}
 use Rattle.occurrences.proofs.weakly_by_place.Given as goal
 

@@ -1,7 +1,7 @@
 -- The tick of the event that the byte names.
-use Rattle.occurrences.specs.Packed.{ticks_of}
+use Rattle.timestamps.specs.Notes.{ticks_of}
 use Rattle.occurrences.proofs.Bytes.{word_of}
-use Rattle.occurrences.proofs.Notes.{tick_noted}
+use Rattle.timestamps.proofs.Notes.{tick_noted}
 use Rattle.std.proofs.Common.{get_or, sym, ap, ◌∙◌}
 use Rattle.occurrences.proofs.word_at.Goals as goal
 

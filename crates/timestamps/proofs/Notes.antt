@@ -2,7 +2,7 @@
 use Rattle.std.proofs.Common.{◌≡◌, ℕ, List, length, get_or, sym, ap, ◌∙◌}
 use lib.ListN.{length-map, get_or-map}
 use Rattle.timestamps.specs.declared.Note.{Note}
-use Rattle.occurrences.specs.Packed.{globals_of, nothing_noted, ticks_of}
+use Rattle.timestamps.specs.Notes.{globals_of, nothing_noted, ticks_of}
 
 module _ (notes : List Note) where
   pub tick_noted : (i : ℕ) → get_or (ticks_of notes) i 0 ≡ (get_or notes i nothing_noted).tick
