@@ -1,6 +1,7 @@
 -- The tables of what is noted, and the notes themselves.
 use Rattle.std.proofs.Common.{◌≡◌, ℕ, List, length, get_or, sym, ap, ◌∙◌}
-use lib.ListN.{length-map, get_or-map}
+use lib.ListN.{length-map, get_or-map, set}
+use Rattle.std.proofs.lemmas.List.{map-set}
 use Rattle.timestamps.specs.declared.Note.{Note}
 use Rattle.timestamps.specs.Notes.{globals_of, nothing_noted, ticks_of}
 
@@ -23,3 +24,10 @@ module _ (notes : List Note) where
 
   pub length_globals : length (globals_of notes) ≡ length notes
   length_globals = length-map notes (λ n. n.global)
+
+  -- one noted anew
+  pub ticks_set : (i : ℕ) (n : Note) → ticks_of (set notes i n) ≡ set (ticks_of notes) i n.tick
+  ticks_set i n = map-set (λ n. n.tick) notes i n
+
+  pub globals_set : (i : ℕ) (n : Note) → globals_of (set notes i n) ≡ set (globals_of notes) i n.global
+  globals_set i n = map-set (λ n. n.global) notes i n
