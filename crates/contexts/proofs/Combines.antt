@@ -23,9 +23,6 @@ abbrev pub Combines : (ticks globals : List ℕ) (w : List (List ℕ)) (m : List
 Combines ticks globals w m o c i = (t : Notes ticks globals) (l : List Occurrence) (x : Occurrence) → Waits t w l → Stands t o x → Left t l m x c i
 
 module _ (ticks globals : List ℕ) (w : List (List ℕ)) (m : List Bool) (o : List ℕ) where
-  pub combines_start : Combines ticks globals w m o o 0
-  combines_start t l x h p = record { so_far = x; stands = p; same = refl }
-
   module _ (list : WaitingList) (is : list ≡ list_of w) (c : List ℕ) (i : ℕ) where
     module _ (waits : i < list.len) (in-m : i < length m) where
       in_l : (t : Notes ticks globals) (l : List Occurrence) → Waits t w l → i < length l
