@@ -46,23 +46,14 @@ pub type KindPlaces = [u8; 34];
 
 // ---- how many places
 
-// One event more of a kind, 16 at most.
-fn one_more(n: u8) -> u8
-    ensures { result ≡ min (n + 1) 16 }
-{
-    if n < 16 { n + 1 } else { 16 }
-}
-
 // How many events there are of each kind, 16 at most, into an array that is lent with zeros in it.
 pub fn count_kinds(kinds: &Places, count: usize, places: &mut KindPlaces)
     requires { (count ≤ 128) × ((i : ℕ) → i < count → get_or kinds.now i 0 < 33) × (places.old ≡ replicate 34 0) }
     ensures { Enough count kinds.now places.new }
 {
-    let mut i: usize = 0;
-    while i < count {
-        let q = kinds[i] as usize;
-        places[q] = one_more(places[q]);
-        i = i + 1;
+    for &kind in &kinds[..count] {
+        let q = kind as usize;
+        places[q] = places[q].min(15) + 1;
     }
 }
 
@@ -79,8 +70,7 @@ fn room_of(input: usize, action: u16, slot: u8, places: &KindPlaces) -> u16
         return 1;
     }
     if slot < 34 {
-        let q = slot as usize;
-        places[q] as u16 + 1
+        places[slot as usize] as u16 + 1
     } else {
         17
     }
@@ -113,18 +103,15 @@ fn seat_inputs(
 {
     let actions = operators::actions_of(row[plans::OPERATOR]);
     let mut l = start;
-    let mut i: usize = 0;
-    while i < 3 {
+    for i in 0..3 {
         let at = SEAT * k + INPUT * i;
         let action = actions[i];
         let slot = row[plans::INPUTS + i] as u8;
-        let q = slot as usize;
-        takers[q] = takers[q] | 1u64 << (4 * k + i);
+        takers[slot as usize] |= 1u64 << (4 * k + i);
         seats[at + ACTION] = action;
         seats[at + SLOT] = slot as u16;
         seats[at + LIST] = l;
-        l = l + room_of(i, action, slot, places);
-        i = i + 1;
+        l += room_of(i, action, slot, places);
     }
     l
 }
@@ -141,13 +128,9 @@ pub fn seat_nodes(
         × Slotted n nodes.now }
     ensures { AllInputs (map node_of (take n nodes.now)) places.now takers.new seats.new }
 {
-    // The array as a slice is what tells the proof its length.
-    let rows = nodes[..].len();
     let mut l: u16 = 0;
-    let mut k: usize = 0;
-    while k < n {
+    for k in 0..n {
         l = seat_inputs(&nodes[k], k, l, places, seats, takers);
-        k = k + 1;
     }
     seats[SEAT * n + LIST] = l;
 }
@@ -158,16 +141,11 @@ pub fn seat_made(nodes: &Nodes, n: usize, takers: &SlotTakers, seats: &mut Seats
     ensures { (places : List ℕ) → AllInputs (map node_of (take n nodes.now)) places takers.now seats.old
         → AllSeated n (map node_of (take n nodes.now)) places takers.now seats.new }
 {
-    // The array as a slice is what tells the proof its length.
-    let rows = nodes[..].len();
     let mut m: u16 = 1;
-    let mut k: usize = 0;
-    while k < n {
-        let row = &nodes[k];
-        seats[SEAT * k] = row[plans::CONTEXT];
+    for k in 0..n {
+        seats[SEAT * k] = nodes[k][plans::CONTEXT];
         seats[SEAT * k + MADE] = m;
-        m = m + made_room(takers[34 + k]);
-        k = k + 1;
+        m += made_room(takers[34 + k]);
     }
     seats[SEAT * n + MADE] = m;
 }
