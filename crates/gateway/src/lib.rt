@@ -108,7 +108,7 @@ fn run_in_places<const LISTS: usize, const MADE: usize>(
 }
 
 // Whether so many places are enough: for lists, and for what is made.
-fn fits(l: u16, lists: u16, m: u16, made: u16) -> bool
+fn fits(l: usize, lists: usize, m: usize, made: usize) -> bool
     ensures { (result ≡ true → (l ≤ lists) × (m ≤ made)) × (result ≡ false → (lists < l) ⊎ (made < m)) }
 {
     l <= lists && m <= made
@@ -116,7 +116,7 @@ fn fits(l: u16, lists: u16, m: u16, made: u16) -> bool
 
 // The run in the smallest of six sizes that has l places for lists and m for what is made: 85 places are cleared in half the time of a few more
 // (docs/PERFORMANCE.md, "Clearing"), and the last is enough for 16 nodes.
-fn run_by_need(given: &Given, l: u16, m: u16, output: &mut [u8]) -> detector::Run
+fn run_by_need(given: &Given, l: usize, m: usize, output: &mut [u8]) -> detector::Run
     requires most { (l ≤ 544) × (m ≤ 136) }
     requires ready { SomeReady given.now.count given.now.kinds.now given.now.takers.now given.now.seats.now l m }
     requires noticed { Noticed given.now.count given.now.kinds.now given.now.loggers.now given.now.ticks.now given.now.globals.now }
@@ -164,8 +164,8 @@ fn run_in_rows(
     let mut takers = [0u64; 50];
     slots::seat_nodes(nodes, n, &places, &mut seats, &mut takers);
     slots::seat_made(nodes, n, &takers, &mut seats);
-    let l = seats[slots::SEAT * n + slots::LIST];
-    let m = seats[slots::SEAT * n + slots::MADE];
+    let l = slots::list_start(&seats, n, 0);
+    let m = slots::made_start(&seats, n);
     let given = Given {
         numbers,
         seats: &seats,
