@@ -77,9 +77,7 @@ struct Given<'a> {
     globals: &'a [u64],
 }
 
-// The run over seated nodes, where so many places for lists and for what is made are enough. Each size has a stack frame of its own, since a function clears
-// at its entry whatever any part of it lends.
-#[inline(never)]
+// The run over seated nodes, where so many places for lists and for what is made are enough: only what is lent is cleared first.
 fn run_in_places<const LISTS: usize, const MADE: usize>(
     given: &Given,
     output: &mut [u8],
@@ -234,7 +232,6 @@ fn work_under(
 }
 
 // The same, with tables for so many events that are lent.
-#[inline(never)]
 fn work_with<const EVENTS: usize>(
     read: plans::PlanRead,
     loggers: &Loggers,
