@@ -1,6 +1,5 @@
 pub mod Answers
 pub mod Events
-pub mod Rows
 pub mod Running
 pub mod Standing
 pub mod Turned

@@ -2,7 +2,7 @@
 use mathlib.Core.List.{List, [], ◌∷◌}
 use mathlib.Core.Logic.{inr}
 use mathlib.Core.Path.{◌≡◌, sym, ap, subst, ◌∙◌}
-use Prim.Native.Nat.{ℕ, zero, suc, ◌+◌, ◌*◌, ◌≤◌}
+use Prim.Native.Nat.{ℕ, zero, suc, ◌≤◌}
 use lib.ListN.{get_or, get_or-replicate, length, length-replicate, replicate}
 use native.Mathlib.Omega.{arith}
 use Rattle.plans.specs.declared.Node.{Node}
@@ -12,10 +12,10 @@ use Rattle.slots.specs.Steps.{AllSeated}
 use Rattle.detector.specs.Steps.{Clear, Ready}
 
 -- where the nodes' lists end, and what they make, as the code reads it
-module _ (n : ℕ) (nodes : List Node) (places takers seats : List ℕ) (a : AllSeated n nodes places takers seats) (l m : ℕ) (ls : l ≡ get_or seats (11 * n + 4) 0) (ms : m ≡ get_or seats (11 * n + 1) 0)
+module _ (n : ℕ) (nodes : List Node) (places takers seats : List ℕ) (a : AllSeated n nodes places takers seats) (l m : ℕ) (ls : l ≡ list_start seats n 0) (ms : m ≡ made_start seats n)
     (count : ℕ) (kinds : List ℕ) (e : Enough count kinds places) where
   lists_end : list_start seats (length nodes) 0 ≡ l
-  lists_end = let i : 11 * length nodes + 3 * 0 + 4 ≡ 11 * n + 4 = omega (arith, a.count) in ap (λ j. get_or seats j 0) i ∙ sym ls
+  lists_end = ap (λ (k : ℕ). list_start seats k 0) a.count ∙ sym ls
 
   made_end : made_start seats (length nodes) ≡ m
   made_end = ap (made_start seats) a.count ∙ sym ms

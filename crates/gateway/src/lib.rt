@@ -1,7 +1,7 @@
 // File working: a passage under a plan, both from their bytes, into a lent output.
 #![tactic(auto)]
 
-ghost use Rattle.std.specs.Prelude.{false, true, List, ◌⊎◌, ◌≡◌, ℕ, ◌≤◌, ◌<◌, get_or, replicate};
+ghost use Rattle.std.specs.Prelude.{false, true, List, ◌⊎◌, ◌≡◌, ℕ, min, ◌-◌, ◌/◌, ◌≤◌, ◌<◌, get_or, length, replicate};
 ghost use Rattle.sequences.specs.Choice.{pick};
 ghost use Rattle.plans.specs.Views.{Slotted};
 ghost use Rattle.passages.specs.Views.{Room};
@@ -64,148 +64,79 @@ fn places_for(kinds: &Places, count: usize, places: &mut KindPlaces)
     slots::count_kinds(kinds, count, places);
 }
 
+// What a run goes by: the loggers' numbers, the seats of the nodes, and the passage's events.
+#[derive(Clone, Copy)]
+struct Given<'a> {
+    numbers: &'a LoggerNumbers,
+    seats: &'a Seats,
+    takers: &'a SlotTakers,
+    count: usize,
+    kinds: &'a Places,
+    loggers: &'a Places,
+    ticks: &'a [u64],
+    globals: &'a [u64],
+}
+
+// The run over seated nodes, where so many places for lists and for what is made are enough: only what is lent is cleared first.
+fn run_in_places<const LISTS: usize, const MADE: usize>(
+    given: &Given,
+    output: &mut [u8],
+) -> detector::Run
+    requires few { (LISTS ≤ 544) × (MADE ≤ 136) }
+    requires ready { SomeReady given.now.count given.now.kinds.now given.now.takers.now given.now.seats.now LISTS MADE }
+    requires noticed { Noticed given.now.count given.now.kinds.now given.now.loggers.now given.now.ticks.now given.now.globals.now }
+    ensures { Runs given.now.numbers.now given.now.takers.now given.now.seats.now LISTS MADE given.now.count
+        given.now.kinds.now given.now.loggers.now given.now.ticks.now given.now.globals.now output.old result output.new }
+{
+    let mut lists = [[0u64; 3]; LISTS];
+    let mut made = [[0u64; 3]; MADE];
+    detector::run_in(
+        given.numbers,
+        given.seats,
+        given.takers,
+        given.count,
+        given.kinds,
+        given.loggers,
+        given.ticks,
+        given.globals,
+        &mut lists,
+        &mut made,
+        output,
+    )
+}
+
 // Whether so many places are enough: for lists, and for what is made.
-fn fits(l: u16, lists: u16, m: u16, made: u16) -> bool
+fn fits(l: usize, lists: usize, m: usize, made: usize) -> bool
     ensures { (result ≡ true → (l ≤ lists) × (m ≤ made)) × (result ≡ false → (lists < l) ⊎ (made < m)) }
 {
-    if lists < l {
-        return false;
-    }
-    m <= made
+    l <= lists && m <= made
 }
 
-// The run over seated nodes, where 40 places for lists and 17 for what is made are enough; 10 and 9 are lent where those are.
-fn run_small(
-    numbers: &LoggerNumbers,
-    seats: &Seats,
-    takers: &SlotTakers,
-    l: u16,
-    m: u16,
-    count: usize,
-    kinds: &Places,
-    loggers: &Places,
-    ticks: &[u64],
-    globals: &[u64],
-    output: &mut [u8],
-) -> detector::Run
-    requires { (l ≤ 40) × (m ≤ 17) × SomeReady count kinds.now takers.now seats.now l m
-        × Noticed count kinds.now loggers.now ticks.now globals.now }
-    ensures { Runs numbers.now takers.now seats.now l m count kinds.now loggers.now
-        ticks.now globals.now output.old result output.new }
+// The run in the smallest of six sizes that has l places for lists and m for what is made: 85 places are cleared in half the time of a few more
+// (docs/PERFORMANCE.md, "Clearing"), and the last is enough for 16 nodes.
+fn run_by_need(given: &Given, l: usize, m: usize, output: &mut [u8]) -> detector::Run
+    requires most { (l ≤ 544) × (m ≤ 136) }
+    requires ready { SomeReady given.now.count given.now.kinds.now given.now.takers.now given.now.seats.now l m }
+    requires noticed { Noticed given.now.count given.now.kinds.now given.now.loggers.now given.now.ticks.now given.now.globals.now }
+    ensures { Runs given.now.numbers.now given.now.takers.now given.now.seats.now l m given.now.count
+        given.now.kinds.now given.now.loggers.now given.now.ticks.now given.now.globals.now output.old result output.new }
 {
     if fits(l, 10, m, 9) {
-        let mut lists = [[0u64; 3]; 10];
-        let mut made = [[0u64; 3]; 9];
-        return detector::run_in(
-            numbers, seats, takers, count, kinds, loggers, ticks, globals, &mut lists, &mut made,
-            output,
-        );
+        return run_in_places::<10, 9>(given, output);
     }
-    let mut lists = [[0u64; 3]; 40];
-    let mut made = [[0u64; 3]; 17];
-    detector::run_in(
-        numbers, seats, takers, count, kinds, loggers, ticks, globals, &mut lists, &mut made,
-        output,
-    )
-}
-
-// The same, where 200 and 72 are enough; 120 and 40 are lent where those are.
-fn run_half(
-    numbers: &LoggerNumbers,
-    seats: &Seats,
-    takers: &SlotTakers,
-    l: u16,
-    m: u16,
-    count: usize,
-    kinds: &Places,
-    loggers: &Places,
-    ticks: &[u64],
-    globals: &[u64],
-    output: &mut [u8],
-) -> detector::Run
-    requires { (l ≤ 200) × (m ≤ 72) × SomeReady count kinds.now takers.now seats.now l m
-        × Noticed count kinds.now loggers.now ticks.now globals.now }
-    ensures { Runs numbers.now takers.now seats.now l m count kinds.now loggers.now
-        ticks.now globals.now output.old result output.new }
-{
-    if fits(l, 120, m, 40) {
-        let mut lists = [[0u64; 3]; 120];
-        let mut made = [[0u64; 3]; 40];
-        return detector::run_in(
-            numbers, seats, takers, count, kinds, loggers, ticks, globals, &mut lists, &mut made,
-            output,
-        );
+    if fits(l, 40, m, 17) {
+        return run_in_places::<40, 17>(given, output);
     }
-    let mut lists = [[0u64; 3]; 200];
-    let mut made = [[0u64; 3]; 72];
-    detector::run_in(
-        numbers, seats, takers, count, kinds, loggers, ticks, globals, &mut lists, &mut made,
-        output,
-    )
-}
-
-// The same, with 544 and 136, which are enough for 16 nodes; less is lent where that will do.
-fn run_large(
-    numbers: &LoggerNumbers,
-    seats: &Seats,
-    takers: &SlotTakers,
-    l: u16,
-    m: u16,
-    count: usize,
-    kinds: &Places,
-    loggers: &Places,
-    ticks: &[u64],
-    globals: &[u64],
-    output: &mut [u8],
-) -> detector::Run
-    requires { (l ≤ 544) × (m ≤ 136) × SomeReady count kinds.now takers.now seats.now l m
-        × Noticed count kinds.now loggers.now ticks.now globals.now }
-    ensures { Runs numbers.now takers.now seats.now l m count kinds.now loggers.now
-        ticks.now globals.now output.old result output.new }
-{
-    if fits(l, 200, m, 72) {
-        return run_half(
-            numbers, seats, takers, l, m, count, kinds, loggers, ticks, globals, output,
-        );
-    }
-    let mut lists = [[0u64; 3]; 544];
-    let mut made = [[0u64; 3]; 136];
-    detector::run_in(
-        numbers, seats, takers, count, kinds, loggers, ticks, globals, &mut lists, &mut made,
-        output,
-    )
-}
-
-// The same; 85 and 40 are lent where those are enough: so many are cleared in half the time of a few more (docs/PERFORMANCE.md, "Clearing").
-fn run_middle(
-    numbers: &LoggerNumbers,
-    seats: &Seats,
-    takers: &SlotTakers,
-    l: u16,
-    m: u16,
-    count: usize,
-    kinds: &Places,
-    loggers: &Places,
-    ticks: &[u64],
-    globals: &[u64],
-    output: &mut [u8],
-) -> detector::Run
-    requires { (l ≤ 544) × (m ≤ 136) × SomeReady count kinds.now takers.now seats.now l m
-        × Noticed count kinds.now loggers.now ticks.now globals.now }
-    ensures { Runs numbers.now takers.now seats.now l m count kinds.now loggers.now
-        ticks.now globals.now output.old result output.new }
-{
     if fits(l, 85, m, 40) {
-        let mut lists = [[0u64; 3]; 85];
-        let mut made = [[0u64; 3]; 40];
-        return detector::run_in(
-            numbers, seats, takers, count, kinds, loggers, ticks, globals, &mut lists, &mut made,
-            output,
-        );
+        return run_in_places::<85, 40>(given, output);
     }
-    run_large(
-        numbers, seats, takers, l, m, count, kinds, loggers, ticks, globals, output,
-    )
+    if fits(l, 120, m, 40) {
+        return run_in_places::<120, 40>(given, output);
+    }
+    if fits(l, 200, m, 72) {
+        return run_in_places::<200, 72>(given, output);
+    }
+    run_in_places::<544, 136>(given, output)
 }
 
 // The events of a checked passage under its plan, with as many places for waiting lists and for what the nodes make as there is use for: all that is lent is
@@ -231,36 +162,19 @@ fn run_in_rows(
     let mut takers = [0u64; 50];
     slots::seat_nodes(nodes, n, &places, &mut seats, &mut takers);
     slots::seat_made(nodes, n, &takers, &mut seats);
-    let l = seats[slots::SEAT * n + slots::LIST];
-    let m = seats[slots::SEAT * n + slots::MADE];
-    if fits(l, 40, m, 17) {
-        return run_small(
-            numbers,
-            &seats,
-            &takers,
-            l,
-            m,
-            count,
-            kind_places,
-            logger_places,
-            ticks,
-            globals,
-            output,
-        );
-    }
-    run_middle(
+    let l = slots::list_start(&seats, n, 0);
+    let m = slots::made_start(&seats, n);
+    let given = Given {
         numbers,
-        &seats,
-        &takers,
-        l,
-        m,
+        seats: &seats,
+        takers: &takers,
         count,
-        kind_places,
-        logger_places,
+        kinds: kind_places,
+        loggers: logger_places,
         ticks,
         globals,
-        output,
-    )
+    };
+    run_by_need(&given, l, m, output)
 }
 
 // Under the plan that was read, or its fault: the passage is checked whole, then its events are worked, in tables that are lent.
@@ -317,6 +231,35 @@ fn work_under(
     ended(run)
 }
 
+// The same, with tables for so many events that are lent.
+fn work_with<const EVENTS: usize>(
+    read: plans::PlanRead,
+    loggers: &Loggers,
+    kinds: &Kinds,
+    nodes: &Nodes,
+    passage: &[u8],
+    output: &mut [u8],
+) -> Answer
+    requires held { PlanHeld read loggers.now kinds.now nodes.now }
+    requires few { EVENTS ≤ 129 }
+    requires room { min 128 ((length passage.now - 2) / 12) < EVENTS }
+    ensures { WorkedUnder read loggers.now kinds.now nodes.now
+        passage.now output.old result output.new }
+{
+    let mut ticks = [0u64; EVENTS];
+    let mut globals = [0u64; EVENTS];
+    work_under(
+        read,
+        loggers,
+        kinds,
+        nodes,
+        passage,
+        output,
+        &mut ticks,
+        &mut globals,
+    )
+}
+
 // The same with tables as long as the passage has use for: of fewer bytes than 194 there are at most 15 events, of fewer than 770 at most 63.
 fn work_in_tables(
     read: plans::PlanRead,
@@ -332,45 +275,12 @@ fn work_in_tables(
 {
     let size = passage.len();
     if size < 194 {
-        let mut ticks = [0u64; 16];
-        let mut globals = [0u64; 16];
-        return work_under(
-            read,
-            loggers,
-            kinds,
-            nodes,
-            passage,
-            output,
-            &mut ticks,
-            &mut globals,
-        );
+        work_with::<16>(read, loggers, kinds, nodes, passage, output)
+    } else if size < 770 {
+        work_with::<64>(read, loggers, kinds, nodes, passage, output)
+    } else {
+        work_with::<129>(read, loggers, kinds, nodes, passage, output)
     }
-    if size < 770 {
-        let mut ticks = [0u64; 64];
-        let mut globals = [0u64; 64];
-        return work_under(
-            read,
-            loggers,
-            kinds,
-            nodes,
-            passage,
-            output,
-            &mut ticks,
-            &mut globals,
-        );
-    }
-    let mut ticks = [0u64; 129];
-    let mut globals = [0u64; 129];
-    work_under(
-        read,
-        loggers,
-        kinds,
-        nodes,
-        passage,
-        output,
-        &mut ticks,
-        &mut globals,
-    )
 }
 
 // Both files are checked whole, the plan first; then the passage's events are worked.

@@ -1,7 +1,7 @@
 -- The inputs before i are seated, whatever the other nodes are.
 use mathlib.Core.List.{List}
 use mathlib.Core.Path.{◌≡◌}
-use Prim.Native.Nat.{◌≤◌, ◌+◌, ◌-◌, ◌*◌}
+use Prim.Native.Nat.{◌≤◌, ◌+◌, ◌*◌}
 use lib.ListN.{get_or, length}
 use Rattle.plans.specs.declared.Node.{Node}
 use Rattle.plans.specs.Limits.{no_node}
@@ -11,8 +11,5 @@ use Rattle.slots.proofs.seat_inputs.Given as goal
 
 abbrev pub invariant-loop-i : goal.invariant-loop-i
 invariant-loop-i v =
-    (v.i ≤ 3) × (length v.seats ≡ 187) × (length v.takers ≡ 50) × (v.l ≤ v.start + 17 * v.i)
+    (length v.seats ≡ 187) × (length v.takers ≡ 50) × (v.l ≤ v.start + 17 * v.i)
     × ((nodes : List Node) → get_or nodes v.k no_node ≡ node_of v.row → Filling v.places nodes v.k 0 v.initial.seats v.initial.takers v.start → Filling v.places nodes v.k v.i v.seats v.takers v.l)
-
-abbrev pub decreases-loop-i : goal.decreases-loop-i
-decreases-loop-i l = 3 - l.i
