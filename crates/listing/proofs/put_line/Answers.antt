@@ -1,7 +1,7 @@
 -- Its seven pieces, one after the other.
 use Rattle.detections.proofs.Writing.{wrote_then}
 use Rattle.listing.specs.Text.{line_text}
-use Rattle.std.proofs.Common.{◌≤◌, arith, length, rules}
+use Rattle.std.proofs.Common.{◌≤◌, arith, length}
 use Rattle.listing.proofs.put_line.Goals as goal
 
 pub returns : goal.returns
