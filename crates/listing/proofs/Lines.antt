@@ -5,32 +5,33 @@ use mathlib.Core.List.{List, [], ◌∷◌, ◌++◌}
 use Prim.Native.Nat.{ℕ, zero, suc, ◌+◌, ◌-◌, ◌≤◌, ◌<◌}
 use native.Mathlib.Numerals.{add-one}
 use native.Mathlib.Omega.{arith}
+<<<<<<< HEAD
 use lib.ListN.{length, take, drop, get_or, length-take}
 use lib.Seq.{drop-cons, get_or-take, drop-length, drop-drop, drop-nil}
 use Rattle.std.specs.Prelude.{Some, None}
+=======
+use Rattle.std.proofs.Common.{drop_of_length-le}
+use lib.ListN.{length, drop, get_or}
+use lib.Seq.{drop-cons}
+>>>>>>> 975aa509b6f72683709466b3ff695503f8af9850
 use Rattle.event_sets.specs.declared.EventSet.{EventSet}
 use Rattle.event_sets.specs.Sets.{elements, elements_from, next_from}
 use Rattle.event_sets.proofs.Walks.{walk_next, next-none}
 use Rattle.readings.specs.Reader.{FindingAnswer, read_finding}
 use Rattle.listing.specs.Text.{comma, listed, number_text, line_text, lines_at}
 
--- ---- the first n of a list, from place i on
-module _ {A : Type 0} (text : ℕ → A → List ℕ) (n : ℕ) (l : List A) where
-  pub listed_turn : (separator i : ℕ) (d : A) → i < n → i < length l
-      → listed text separator (drop i (take n l)) ≡ text separator (get_or l i d) ++ listed text comma (drop (i + 1) (take n l))
+-- ---- a list from place i on
+module _ {A : Type 0} (text : ℕ → A → List ℕ) (l : List A) where
+  pub listed_turn : (separator i : ℕ) (d : A) → i < length l
+      → listed text separator (drop i l) ≡ text separator (get_or l i d) ++ listed text comma (drop (i + 1) l)
   unfolding listed
-  listed_turn separator i d h k =
-      let m : i < length (take n l) = omega (arith, length-take n l) in
-      let e : drop i (take n l) ≡ get_or l i d ∷ drop (i + 1) (take n l) = rw (add-one, drop-cons (take n l) i d m, get_or-take n l i d h) in
+  listed_turn separator i d h =
+      let e : drop i l ≡ get_or l i d ∷ drop (i + 1) l = rw (add-one, drop-cons l i d h) refl in
       ap (listed text separator) e
 
-  pub listed_end : (separator i : ℕ) → length (take n l) ≤ i → listed text separator (drop i (take n l)) ≡ []
+  pub listed_end : (separator i : ℕ) → length l ≤ i → listed text separator (drop i l) ≡ []
   unfolding listed
-  listed_end separator i h =
-      let m : i ≡ length (take n l) + (i - length (take n l)) = omega arith in
-      let e : drop i (take n l) ≡ [] =
-      ap (λ j. drop j (take n l)) m ∙ sym (drop-drop (i - length (take n l)) (length (take n l)) (take n l)) ∙ rw (drop-length (take n l)) (drop-nil (i - length (take n l))) in
-      ap (listed text separator) e
+  listed_end separator i h = ap (listed text separator) (drop_of_length-le l h)
 
 -- ---- the events from a number on
 module _ (s : EventSet) (n : ℕ) where

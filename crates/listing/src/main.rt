@@ -2,7 +2,7 @@
 
 // Works a passage under a plan, both from their files, and prints a line for each finding and one for the answer, in document
 // 01's form. Of a file that cannot be read it says so on standard error, and prints nothing.
-ghost use Rattle.std.specs.Prelude.{◌+◌, ◌-◌, ◌≤◌, ◌<◌, length, take, true, ◌≡◌};
+ghost use Rattle.std.specs.Prelude.{◌+◌, ◌*◌, ◌≤◌, ◌<◌, length, ◌≡◌, Ok, IfOk, IfSome};
 ghost use Rattle.detections.specs.Writing.{Wrote};
 ghost use Rattle.readings.specs.Views.{answer_of};
 ghost use Rattle.event_sets.specs.Sets.{elements};
@@ -17,13 +17,6 @@ use std::io::{Read, Write};
 use std::rt::{Env, Files};
 use std::{fs, io, str};
 use working::Answer;
-
-// How many bytes of a file were read, or that reading failed.
-#[derive(Clone, Copy)]
-struct FileRead {
-    failed: bool,
-    count: usize,
-}
 
 // A page with some lines: where they end, the place of the next finding, and how many are left.
 #[derive(Clone, Copy)]
@@ -64,27 +57,20 @@ fn put_stamp(page: &mut [u8], at: usize, separator: u8, s: Stamp) -> usize
     requires { at + 42 ≤ length page.old }
     ensures { Wrote page.old at (stamp_text separator s) result page.new × (at < result) × (result ≤ at + 42) }
 {
-    let tick = s.tick;
     let a = put_number(page, at, separator, s.logger);
-    put_number(page, a, b':', tick.0)
+    put_number(page, a, b':', s.tick.0)
 }
 
-// As many stamps as count says: the first after a space, each other after a comma.
-fn put_stamps(page: &mut [u8], at: usize, count: usize, stamps: [Stamp; 8]) -> usize
-    requires { at + 336 ≤ length page.old }
-    ensures { Wrote page.old at (listed stamp_text space (take count stamps)) result page.new × (at ≤ result) × (result ≤ at + 336) }
+// The stamps: the first after a space, each other after a comma.
+fn put_stamps(page: &mut [u8], at: usize, stamps: &[Stamp]) -> usize
+    requires { at + 42 * length stamps.now ≤ length page.old }
+    ensures { Wrote page.old at (listed stamp_text space stamps.now) result page.new × (at ≤ result) × (result ≤ at + 42 * length stamps.now) }
 {
     let mut to = at;
     let mut separator = b' ';
-    let mut i: usize = 0;
-    while i < 8 {
-        if i >= count {
-            return to;
-        }
-        let s = stamps[i];
-        to = put_stamp(page, to, separator, s);
+    for s in stamps {
+        to = put_stamp(page, to, separator, *s);
         separator = b',';
-        i += 1;
     }
     to
 }
@@ -106,18 +92,16 @@ fn put_events(page: &mut [u8], at: usize, events: EventSet) -> usize
 }
 
 // A finding's line, as: node 0 at 2:110 from 1,2
-fn put_line(page: &mut [u8], at: usize, f: FindingRead) -> usize
+fn put_line(page: &mut [u8], at: usize, f: &FindingRead) -> usize
     requires { at + 3072 ≤ length page.old }
-    ensures { Wrote page.old at (line_text (answer_of f).finding) result page.new × (at < result) × (result ≤ at + 3072) }
+    ensures { Wrote page.old at (line_text (answer_of (Ok f.now)).finding) result page.new × (at < result) × (result ≤ at + 3072) }
 {
-    let stamps = f.stamps;
-    let events = f.events;
     let a = put_text(page, at, b"node");
     let b = put_number(page, a, b' ', f.node);
     let c = put_text(page, b, b" at");
-    let d = put_stamps(page, c, f.stamp_count, stamps);
+    let d = put_stamps(page, c, f.stamps.listed());
     let e = put_text(page, d, b" from");
-    let g = put_events(page, e, events);
+    let g = put_events(page, e, f.events);
     put_text(page, g, b"\n")
 }
 
@@ -141,49 +125,35 @@ fn fill(page: &mut [u8], output: &[u8], from: usize, count: u64) -> Filled
     requires { length page.old ≡ 16384 }
     ensures { Fills output.now from count page.new result }
 {
-    let mut len: usize = 0;
+    let mut len = 0;
     let mut next = from;
-    let mut left = count;
-    while left > 0 {
+    for done in 0..count {
         if len > LAST_START {
-            return Filled { len, next, left };
+            return Filled {
+                len,
+                next,
+                left: count - done,
+            };
         }
-        let f = readings::read(output, next);
-        if !f.whole {
+        let Ok(f) = readings::read(output, next) else {
             return Filled { len, next, left: 0 };
-        }
-        len = put_line(page, len, f);
+        };
+        len = put_line(page, len, &f);
         next = f.next;
-        left -= 1;
     }
-    Filled { len, next, left }
-}
-
-// Writes the page's first bytes, or says why not.
-fn write_page(rt: &(impl Print + Eprint), page: &[u8], len: usize) -> bool
-    requires { len ≤ length page.now }
-{
-    match rt.write_all(&page[..len]) {
-        Ok(()) => true,
-        Err(error) => {
-            fail(rt, "standard output", error);
-            false
-        }
-    }
+    Filled { len, next, left: 0 }
 }
 
 // Prints a page at a time; the last one ends with the answer.
-fn print(rt: &(impl Print + Eprint), output: &[u8], answer: Answer) {
+fn print(rt: &impl Print, output: &[u8], answer: Answer) -> io::Result<()> {
     let mut page = [0u8; 16384];
     let mut filled = fill(&mut page, output, 0, answer.findings);
     while filled.left > 0 {
-        if !write_page(rt, &page, filled.len) {
-            return;
-        }
+        rt.write_all(&page[..filled.len])?;
         filled = fill(&mut page, output, filled.next, filled.left);
     }
     let len = put_end(&mut page, filled.len, answer);
-    write_page(rt, &page, len);
+    rt.write_all(&page[..len])
 }
 
 // ---- files
@@ -207,63 +177,54 @@ fn fail(rt: &impl Eprint, what: &str, error: io::Error) {
 }
 
 // Reads until the file ends or buf is full. A read that fails is no end.
-fn read_file(rt: &impl Eprint, name: &str, file: &mut impl Read, buf: &mut [u8]) -> FileRead
-    ensures { (result.count ≤ length buf.new) × (result.count ≡ length (take result.count buf.new)) }
+fn read_file(file: &mut impl Read, buf: &mut [u8]) -> io::Result<usize>
+    ensures { IfOk result (λ n. n ≤ length buf.new) }
 {
-    let mut count: usize = 0;
+    let mut count = 0;
     while count < buf.len() {
-        match file.read(&mut buf[count..]) {
-            Ok(0) => break,
-            Ok(more) => count += more,
-            Err(error) => {
-                fail(rt, name, error);
-                return FileRead {
-                    failed: true,
-                    count,
-                };
-            }
+        match file.read(&mut buf[count..])? {
+            0 => break,
+            more => count += more,
         }
     }
-    FileRead {
-        failed: false,
-        count,
-    }
+    Ok(count)
 }
 
-fn unread() -> FileRead
-    ensures { (result.failed ≡ true) × (result.count ≡ 0) }
+// The text of argument i.
+fn argument<'a>(rt: &impl Env, i: usize, text: &'a mut [u8]) -> io::Result<&'a str> {
+    let length = match rt.arg(i, text) {
+        Ok(length) => length,
+        Err(FillError::NotPresent) => return Err(io::Error::from_raw_os_error(MISSING)),
+        Err(FillError::TooLong) => return Err(io::Error::from_raw_os_error(TOO_LONG)),
+    };
+    str::from_utf8(&text[..length]).map_err(|_| io::Error::from_raw_os_error(NO_TEXT))
+}
+
+// Opens the file of that name, and reads it.
+fn read_named(rt: &impl Files, name: &str, buf: &mut [u8]) -> io::Result<usize>
+    ensures { IfOk result (λ n. n ≤ length buf.new) }
 {
-    FileRead {
-        failed: true,
-        count: 0,
-    }
+    let mut file = fs::open(rt, name)?;
+    read_file(&mut file, buf)
 }
 
 // Reads the file that argument i names, or says why not.
-fn read_argument(rt: &(impl Env + Files + Eprint), i: usize, buf: &mut [u8]) -> FileRead
-    ensures { (result.count ≤ length buf.new) × (result.count ≡ length (take result.count buf.new)) }
+fn read_argument(rt: &(impl Env + Files + Eprint), i: usize, buf: &mut [u8]) -> Option<usize>
+    ensures { IfSome result (λ n. n ≤ length buf.new) }
 {
     let mut path = [0u8; 4096];
-    let length = match rt.arg(i, &mut path) {
-        Ok(length) => length,
-        Err(FillError::NotPresent) => {
-            fail(rt, "argument", io::Error::from_raw_os_error(MISSING));
-            return unread();
-        }
-        Err(FillError::TooLong) => {
-            fail(rt, "argument", io::Error::from_raw_os_error(TOO_LONG));
-            return unread();
+    let name = match argument(rt, i, &mut path) {
+        Ok(name) => name,
+        Err(error) => {
+            fail(rt, "argument", error);
+            return None;
         }
     };
-    let Ok(name) = str::from_utf8(&path[..length]) else {
-        fail(rt, "argument", io::Error::from_raw_os_error(NO_TEXT));
-        return unread();
-    };
-    match fs::open(rt, name) {
-        Ok(mut file) => read_file(rt, name, &mut file, buf),
+    match read_named(rt, name, buf) {
+        Ok(count) => Some(count),
         Err(error) => {
             fail(rt, name, error);
-            unread()
+            None
         }
     }
 }
@@ -282,18 +243,16 @@ fn main(rt: HostRuntime) {
         return;
     }
     let mut plan = [0u8; 256];
-    let plan_file = read_argument(&rt, 1, &mut plan);
-    if plan_file.failed {
+    let Some(plan_count) = read_argument(&rt, 1, &mut plan) else {
         return;
-    }
+    };
     let mut passage = [0u8; 2048];
-    let passage_file = read_argument(&rt, 2, &mut passage);
-    if passage_file.failed {
+    let Some(passage_count) = read_argument(&rt, 2, &mut passage) else {
         return;
-    }
-    let plan_count = plan_file.count;
-    let passage_count = passage_file.count;
+    };
     let mut output = [0u8; 32768];
     let answer = gateway::work(&plan[..plan_count], &passage[..passage_count], &mut output);
-    print(&rt, &output, answer);
+    if let Err(error) = print(&rt, &output, answer) {
+        fail(&rt, "standard output", error);
+    }
 }

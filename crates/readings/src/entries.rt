@@ -1,5 +1,5 @@
 // The entries of a finding that was read.
-ghost use Rattle.std.specs.Prelude.{◌≡◌, ◌≤◌, take};
+ghost use Rattle.std.specs.Prelude.{◌≡◌, ◌≤◌, length, take};
 
 use detections::Stamp;
 
@@ -13,7 +13,8 @@ pub struct Stamps {
 
 impl Stamps {
     pub fn listed(&self) -> &[Stamp]
-        ensures { result.now ≡ take self.now.count self.now.slots }
+        ensures is { result.now ≡ take self.now.count self.now.slots }
+        ensures few { length result.now ≤ 8 }
     {
         &self.slots[..self.count]
     }
