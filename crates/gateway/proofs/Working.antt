@@ -9,7 +9,6 @@ use lib.ListN.{take}
 use Rattle.timestamps.specs.Order.{Clocks}
 use Rattle.forms.specs.Bytes.{Bytes}
 use Rattle.plans.specs.Layout.{Plan}
-use Rattle.plans.specs.Faults.{number_of as plan_number}
 use Rattle.plans.specs.Reader.{PlanAnswer, read_plan}
 use Rattle.plans.specs.Views.{Slotted, answer_of}
 use Rattle.plans.specs.declared.PlanRead.{PlanRead}
@@ -29,14 +28,17 @@ use Rattle.gateway.specs.Steps.{PlanHeld}
 use Rattle.working.specs.Working.{end_of, plan_worked, turned_back}
 
 -- what is known of a plan that was read
-pub read_held : (b : List ℕ) (r : PlanRead) (loggers kinds : List ℕ) (nodes : List (List ℕ)) → Bytes b → answer_of r loggers kinds nodes ≡ read_plan b
+pub read_held : (b : List ℕ) (r : PlanRead) (loggers kinds : List ℕ) (nodes : List (List ℕ)) → Bytes b → answer_of (Ok r) loggers kinds nodes ≡ read_plan b
     → r.logger_count ≤ 8 → r.kind_count ≤ 32 → r.node_count ≤ 16 → Slotted r.node_count nodes → PlanHeld r loggers kinds nodes
-read_held b r loggers kinds nodes B e l k n s = record { loggers-most = l; kinds-most = k; nodes-most = n; slotted = s; rising = rising }
-  where
-    rising : plan_number r.fault ≡ 0 → RisingByPlace (take r.kind_count kinds) × RisingByPlace (take r.logger_count loggers)
-    rising z =
-        let ok = accepted_ok b B (sym (ap (λ (a : PlanAnswer). a.number) e) ∙ z) in
-        (subst (λ (a : PlanAnswer). RisingByPlace a.plan.kinds) (sym e) ok.kinds.rising, subst (λ (a : PlanAnswer). RisingByPlace a.plan.loggers) (sym e) ok.loggers.rising)
+read_held b r loggers kinds nodes B e l k n s =
+    let ok = accepted_ok b B (sym (ap (λ (a : PlanAnswer). a.number) e)) in
+    record {
+      loggers-most = l;
+      kinds-most = k;
+      nodes-most = n;
+      slotted = s;
+      rising = (subst (λ (a : PlanAnswer). RisingByPlace a.plan.kinds) (sym e) ok.kinds.rising, subst (λ (a : PlanAnswer). RisingByPlace a.plan.loggers) (sym e) ok.loggers.rising);
+    }
 
 -- each fault of a passage has a number that is not 0
 a_number : (f : PassageFault) → eqb (passage_number f) 0 ≡ false

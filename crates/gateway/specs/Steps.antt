@@ -1,6 +1,5 @@
 -- What is known of a plan that was read into arrays, and the work under it. Readers of the promises need none of this.
-use Rattle.std.specs.Prelude.{List, map, ◌≡◌, ℕ, ◌≤◌, length, take}
-use Rattle.plans.specs.Faults.{number_of}
+use Rattle.std.specs.Prelude.{List, map, ◌≡◌, ℕ, ◌≤◌, length, take, Ok}
 use Rattle.plans.specs.Layout.{Plan, plan_clocks}
 use Rattle.plans.specs.declared.PlanRead.{PlanRead}
 use Rattle.plans.specs.Views.{Slotted, answer_of, node_of}
@@ -11,17 +10,17 @@ use Rattle.detector.specs.declared.Run.{Run}
 use Rattle.working.specs.declared.Answer.{Answer}
 use Rattle.working.specs.Working.{Answers, plan_worked}
 
--- there are not too many loggers, kinds and nodes, and the rows of the nodes hold slots; and where the plan has no fault, the numbers of its kinds and of its loggers rise
+-- there are not too many loggers, kinds and nodes, the rows of the nodes hold slots, and the numbers of the kinds and of the loggers rise
 pub record PlanHeld (read : PlanRead) (loggers kinds : List ℕ) (nodes : List (List ℕ)) : Type 0 where
   pub loggers-most : read.logger_count ≤ 8
   pub kinds-most : read.kind_count ≤ 32
   pub nodes-most : read.node_count ≤ 16
   pub slotted : Slotted read.node_count nodes
-  pub rising : number_of read.fault ≡ 0 → RisingByPlace (take read.kind_count kinds) × RisingByPlace (take read.logger_count loggers)
+  pub rising : RisingByPlace (take read.kind_count kinds) × RisingByPlace (take read.logger_count loggers)
 
--- the answer and the output of a passage under the plan that was read, or its fault
+-- the answer and the output of a passage under the plan that was read
 abbrev pub WorkedUnder : (read : PlanRead) (loggers kinds : List ℕ) (nodes : List (List ℕ)) (passage out : List ℕ) (r : Answer) (out' : List ℕ) → Type 0
-WorkedUnder read loggers kinds nodes passage out r out' = Answers (plan_worked (length out) passage (answer_of read loggers kinds nodes)) out r out'
+WorkedUnder read loggers kinds nodes passage out r out' = Answers (plan_worked (length out) passage (answer_of (Ok read) loggers kinds nodes)) out r out'
 
 -- the run over the events that the code keeps is the one under every plan whose logger numbers these are, whose nodes are the first n rows, and by whose clocks
 -- the events are noted

@@ -177,7 +177,7 @@ fn run_in_rows(
     run_by_need(&given, l, m, output)
 }
 
-// Under the plan that was read, or its fault: the passage is checked whole, then its events are worked, in tables that are lent.
+// Under the plan that was read: the passage is checked whole, then its events are worked, in tables that are lent.
 fn work_under(
     read: plans::PlanRead,
     loggers: &Loggers,
@@ -192,10 +192,6 @@ fn work_under(
     ensures { WorkedUnder read loggers.now kinds.now nodes.now
         passage.now output.old result output.new }
 {
-    let plan_fault = read.fault;
-    if !plan_fault.is_none() {
-        return turned_back(plan_fault.number(), read.place);
-    }
     let kind_numbers = &kinds[..];
     let logger_numbers = &loggers[..];
     let k = read.kind_count;
@@ -291,6 +287,8 @@ pub fn work(plan: &[u8], passage: &[u8], output: &mut [u8]) -> Answer
     let mut loggers = [0u16; 8];
     let mut kinds = [0u16; 32];
     let mut nodes = [[0u16; 5]; 16];
-    let read = plans::read_plan(plan, &mut loggers, &mut kinds, &mut nodes);
-    work_in_tables(read, &loggers, &kinds, &nodes, passage, output)
+    match plans::read_plan(plan, &mut loggers, &mut kinds, &mut nodes) {
+        Ok(read) => work_in_tables(read, &loggers, &kinds, &nodes, passage, output),
+        Err(refusal) => turned_back(refusal.fault.number(), refusal.place),
+    }
 }

@@ -1,36 +1,43 @@
--- The plan is read, and the passage is worked under it.
+-- The plan is read, and the passage is worked under it; or the plan is turned back.
+use Rattle.plans.specs.Faults.{number_of}
+use Rattle.plans.specs.Reader.{refused}
+use Rattle.plans.proofs.Faults.{some_number}
 use Rattle.working.proofs.Theorems.{told}
-use Rattle.working.specs.Working.{plan_worked, worked}
+use Rattle.working.specs.Working.{plan_worked, turned_back, worked}
+use borrow.Author.Tests.{ne_eqb}
 use lib.ListN.{length}
-use mathlib.Core.Path.{ap, sym}
+use mathlib.Core.Path.{◌∙◌, ap, sym}
 use native.Mathlib.Omega.{arith}
-use Rattle.gateway.specs.Steps.{PlanHeld}
-use Rattle.gateway.proofs.Working.{read_held}
+use Rattle.gateway.proofs.Working.{plan-refused, read_held}
 use Rattle.gateway.proofs.work.Goals as goal
-use Rattle.gateway.proofs.work.Lts as lts
-use Rattle.gateway.proofs.work.Tie as tie
-use Rattle.gateway.proofs.work.Reads as reads
-
--- the plan as it was read
-held_of : (p : (lts.After-read_plan tie.the-claims reads.Pre reads.Post tie.handed_clauses)) → PlanHeld p.read_plan-read.result p.read_plan-read.new.loggers p.read_plan-read.new.kinds p.read_plan-read.new.nodes
-held_of p =
-    let known = p in
-    let e = p.read_plan-read.ensures in
-    read_held p.args.plan.now p.read_plan-read.result _ _ p.read_plan-read.new.nodes (λ i. omega (arith, known.shared_slice_known-1.given i)) e.0 e.1 e.2 e.3 e.4
 
 pub work_in_tables-requires : goal.work_in_tables-requires
-work_in_tables-requires c = held_of c.before.before.before.before.before
+work_in_tables-requires c =
+    let e = c.in-Ok.ensures in
+    read_held c.args.plan.now c.in-Ok.read _ _ c.read_plan.new.nodes (λ i. omega (arith, c.type_inv.plan i)) e.answer e.counts.0 e.counts.1 e.counts.2 e.slotted
 
-pub returns : goal.returns
+pub returns-in-Ok : goal.returns-in-Ok
 unfolding worked
-returns c =
-    let under = c in
-    let p = c in
-    let known = c in
+returns-in-Ok c =
     let a = c.args in
     let both =
     told a.plan.now a.passage.now (length a.output.now) _ _ _ _
-    (λ i. omega (arith, c.shared_slice_known-1.given i)) (λ i. omega (arith, known.shared_slice_known-2-1.given i))
-    (ap (plan_worked (length a.output.now) a.passage.now) (sym p.read_plan-read.ensures.0))
-    under.work_in_tables.ensures in
+    (λ i. omega (arith, c.type_inv.plan i)) (λ i. omega (arith, c.type_inv.passage i))
+    (ap (plan_worked (length a.output.now) a.passage.now) (sym c.in-Ok.ensures.answer))
+    c.work_in_tables.ensures in
+    record { answers = both.0; latest = both.1 }
+
+pub returns-in-Err : goal.returns-in-Err
+unfolding worked
+returns-in-Err c =
+    let a = c.args in
+    let r = c.in-Err.refusal in
+    let some = ne_eqb (number_of r.fault) 0 (omega (arith, some_number r.fault)) in
+    let both =
+    told a.plan.now a.passage.now (length a.output.now) _ _ _ _
+    (λ i. omega (arith, c.type_inv.plan i)) (λ i. omega (arith, c.type_inv.passage i))
+    (ap (plan_worked (length a.output.now) a.passage.now) (sym c.in-Err.ensures.answer)
+    ∙ plan-refused (length a.output.now) a.passage.now (refused (number_of r.fault) r.place) some
+    ∙ ap (λ n. turned_back n r.place) (sym c.number.ensures))
+    (c.turned_back.ensures _) in
     record { answers = both.0; latest = both.1 }

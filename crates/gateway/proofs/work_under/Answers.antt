@@ -1,25 +1,15 @@
 -- Turned back, or the run.
-use Rattle.gateway.proofs.Working.{both-accepted, noted_themselves, passage-refused, plan-refused, ran_noted}
+use Rattle.gateway.proofs.Working.{both-accepted, noted_themselves, passage-refused, ran_noted}
 use Rattle.plans.specs.Layout.{plan_clocks}
 use Rattle.plans.specs.Views.{answer_of}
+use Rattle.std.specs.Prelude.{Ok}
 use Rattle.working.proofs.Answers.{answers_same}
 use Rattle.working.specs.Working.{turned_back}
-use borrow.Author.Tests.{eqb-true}
-use lib.Dec.{eqb}
 use lib.ListN.{length-take}
 use lib.Seq.{length-take-le}
-use mathlib.Core.Bool.{true}
 use mathlib.Core.Path.{◌∙◌, ◌≡◌, ap, refl, sym}
 use native.Mathlib.Omega.{arith}
 use Rattle.gateway.proofs.work_under.Goals as goal
-
-pub returns-then-not-is_none : goal.returns-then-not-is_none
-returns-then-not-is_none c =
-    let s = c in
-    let a = answer_of s.args.read s.args.loggers.now s.args.kinds.now s.args.nodes.now in
-    answers_same _ _ _ _ _
-    (plan-refused _ _ a (sym c.is_none.ensures ∙ c.if-not-is_none.true) ∙ ap (λ n. turned_back n s.args.read.place) (sym c.number.ensures))
-    (c.turned_back.ensures _)
 
 pub slice_bounds-check_passage-end : goal.slice_bounds-check_passage-end
 slice_bounds-check_passage-end c = sym (length-take-le _ _ (omega (arith, c.requires.0.kinds-most)))
@@ -30,14 +20,11 @@ slice_bounds-check_passage-end-2 c = sym (length-take-le _ _ (omega (arith, c.re
 pub check_passage-check-requires : goal.check_passage-check-requires
 check_passage-check-requires c =
     let s = c in
-    let a = answer_of s.args.read s.args.loggers.now s.args.kinds.now s.args.nodes.now in
-    let fine : eqb a.number 0 ≡ true = sym c.is_none.ensures ∙ c.if-not-is_none.false in
-    let known = s.requires.0 in
-    let rising = known.rising (eqb-true _ _ fine) in (
+    let known = s.requires.0 in (
       omega (arith, length-take s.args.read.kind_count s.args.kinds.now, known.kinds-most),
       omega (arith, length-take s.args.read.logger_count s.args.loggers.now, known.loggers-most),
-      rising.0,
-      rising.1,
+      known.rising.0,
+      known.rising.1,
       s.requires.1,
       s.requires.2,
     )
@@ -45,27 +32,25 @@ check_passage-check-requires c =
 pub returns-in-Err : goal.returns-in-Err
 returns-in-Err c =
     let s = c in
-    let a = answer_of s.args.read s.args.loggers.now s.args.kinds.now s.args.nodes.now in
-    let fine : eqb a.number 0 ≡ true = sym c.is_none.ensures ∙ c.if-not-is_none.false in
+    let a = answer_of (Ok s.args.read) s.args.loggers.now s.args.kinds.now s.args.nodes.now in
     let refusal = c.in-Err.refusal in
     let checked = c.in-Err.ensures a.plan refl refl refl in
     answers_same _ _ _ _ _
-    (passage-refused _ _ a fine refusal checked.0 ∙ ap (λ n. turned_back n refusal.place) (sym c.number-in-Err.ensures))
-    (c.turned_back-in-Err.ensures _)
+    (passage-refused _ _ a refl refusal checked.0 ∙ ap (λ n. turned_back n refusal.place) (sym c.number.ensures))
+    (c.turned_back.ensures _)
 
 pub run_in_rows-run-requires : goal.run_in_rows-run-requires
 run_in_rows-run-requires c =
     let s = c in
-    let a = answer_of s.args.read s.args.loggers.now s.args.kinds.now s.args.nodes.now in
+    let a = answer_of (Ok s.args.read) s.args.loggers.now s.args.kinds.now s.args.nodes.now in
     let checked = c.in-Ok.ensures a.plan refl refl refl in
     (s.requires.0.nodes-most, (plan_clocks a.plan, noted_themselves _ _ _ _ _ _ _ checked.1), s.requires.0.slotted)
 
 pub returns : goal.returns
 returns c =
     let s = c in
-    let a = answer_of s.args.read s.args.loggers.now s.args.kinds.now s.args.nodes.now in
-    let fine : eqb a.number 0 ≡ true = sym c.is_none.ensures ∙ c.if-not-is_none.false in
+    let a = answer_of (Ok s.args.read) s.args.loggers.now s.args.kinds.now s.args.nodes.now in
     let checked = c.in-Ok.ensures a.plan refl refl refl in
     answers_same _ _ _ _ _
-    (both-accepted _ _ a fine _ checked.0)
+    (both-accepted _ _ a refl _ checked.0)
     (c.ended.ensures _ _ _ (ran_noted _ _ _ _ _ _ _ checked.1 a.plan _ _ _ (c.run_in_rows-run.ensures a.plan c.numbers_by_place-numbers.ensures refl (noted_themselves _ _ _ _ _ _ _ checked.1))))
