@@ -1,11 +1,10 @@
 -- How the work ends, from what the readers and the run ensure.
 use mathlib.Core.Bool.{true, false}
 use mathlib.Core.List.{List}
-use mathlib.Core.Path.{◌≡◌, refl, sym, ap, subst, ◌∙◌}
+use mathlib.Core.Path.{◌≡◌, refl, sym, ap, subst}
 use Prim.Native.Nat.{ℕ, ◌≤◌}
 use Rattle.std.specs.Prelude.{Ok, Err}
 use lib.Dec.{eqb}
-use lib.ListN.{take}
 use Rattle.timestamps.specs.Order.{Clocks}
 use Rattle.forms.specs.Bytes.{Bytes}
 use Rattle.plans.specs.Layout.{Plan}

@@ -7,7 +7,7 @@ use Rattle.working.proofs.Answers.{answers_same}
 use Rattle.working.specs.Working.{turned_back}
 use lib.ListN.{length-take}
 use lib.Seq.{length-take-le}
-use mathlib.Core.Path.{◌∙◌, ◌≡◌, ap, refl, sym}
+use mathlib.Core.Path.{◌∙◌, ap, refl, sym}
 use native.Mathlib.Omega.{arith}
 use Rattle.gateway.proofs.work_under.Goals as goal
 
