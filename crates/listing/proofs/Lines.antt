@@ -5,15 +5,10 @@ use mathlib.Core.List.{List, [], ◌∷◌, ◌++◌}
 use Prim.Native.Nat.{ℕ, zero, suc, ◌+◌, ◌-◌, ◌≤◌, ◌<◌}
 use native.Mathlib.Numerals.{add-one}
 use native.Mathlib.Omega.{arith}
-<<<<<<< HEAD
-use lib.ListN.{length, take, drop, get_or, length-take}
-use lib.Seq.{drop-cons, get_or-take, drop-length, drop-drop, drop-nil}
-use Rattle.std.specs.Prelude.{Some, None}
-=======
 use Rattle.std.proofs.Common.{drop_of_length-le}
 use lib.ListN.{length, drop, get_or}
 use lib.Seq.{drop-cons}
->>>>>>> 975aa509b6f72683709466b3ff695503f8af9850
+use Rattle.std.specs.Prelude.{Some, None}
 use Rattle.event_sets.specs.declared.EventSet.{EventSet}
 use Rattle.event_sets.specs.Sets.{elements, elements_from, next_from}
 use Rattle.event_sets.proofs.Walks.{walk_next, next-none}
