@@ -2,7 +2,8 @@
 // makes and a tally are lent.
 #![tactic(auto)]
 
-ghost use Rattle.std.specs.Prelude.{List, ◌≡◌, ℕ, ◌≤◌, ◌<◌, get_or, length};
+ghost use Rattle.std.specs.Prelude.{List, None, ◌≡◌, ℕ, ◌≤◌, ◌<◌, get_or, length};
+ghost use Rattle.std.specs.Result.{result_err};
 ghost use Rattle.detections.specs.Writing.{Beyond};
 ghost use Rattle.occurrences.specs.declared.Occurrence.{Occurrence};
 ghost use Rattle.occurrences.specs.Packed.{Notes, Stand, Stands};
@@ -94,14 +95,14 @@ fn accumulate(
     globals: &[u64],
     loggers: &LoggerNumbers,
     out: &mut [u8],
-) -> Limit
+) -> Result<(), Limit>
     requires { Offered turn ticks.now globals.now lists.old tally.old made.old out.old o.now × InOutput tally.old out.old
         × Halves turn (length lists.old) own other }
     ensures acts { (t : Notes ticks.now globals.now) (node : Node) (x : Turned) (a : Arrival)
         → turn.action ≡ 5 → Takes node turn → a.input ≡ turn.input → Stands t o.now a.occurrence
-        → HoldsTurned t Limit.None turn.split lists.old tally.old made.old out.old x
+        → HoldsTurned t None turn.split lists.old tally.old made.old out.old x
         → Chose turn t.clocks x a.occurrence candidates choice
-        → HoldsTurned t result turn.split lists.new tally.new made.new out.new
+        → HoldsTurned t (result_err result) turn.split lists.new tally.new made.new out.new
         (arrives (setting_of (length out.old) t.clocks loggers.now) node turn.place x a) }
     ensures beyond { Beyond out.old out.new (bytes_in tally.old)
         (findings_in tally.new) (bytes_in tally.new) }
@@ -112,7 +113,7 @@ fn accumulate(
     let to = other.to;
     let all = &lists[..];
     let earlier = contexts::before_arrival(&all[own_from..own_to], o, ticks, globals);
-    let limit = arrivals::emit_accumulated(
+    arrivals::emit_accumulated(
         tally,
         made,
         choice.taken,
@@ -126,13 +127,10 @@ fn accumulate(
         globals,
         loggers,
         out,
-    );
-    if limit.is_reached() {
-        return limit;
-    }
+    )?;
     waiting_lists::remove_from(&mut lists[from..to], candidates);
     waiting_lists::remove_from(&mut lists[own_from..own_to], earlier);
-    Limit::None
+    Ok(())
 }
 
 // What the context's row says of an arrival: findings first, then the removal, then the append; where a limit is met nothing is removed.
@@ -150,15 +148,15 @@ fn by_row(
     globals: &[u64],
     loggers: &LoggerNumbers,
     out: &mut [u8],
-) -> Limit
+) -> Result<(), Limit>
     requires { Offered turn ticks.now globals.now lists.old tally.old made.old out.old o.now × InOutput tally.old out.old
         × Spares turn lists.old 1 × Halves turn (length lists.old) own other }
     ensures acts { (t : Notes ticks.now globals.now) (node : Node) (x : Turned) (a : Arrival)
         → Looks turn.action → (turn.action ≡ 4 → ⊥) → (turn.action ≡ 5 → ⊥)
         → Takes node turn → a.input ≡ turn.input → Stands t o.now a.occurrence
-        → HoldsTurned t Limit.None turn.split lists.old tally.old made.old out.old x
+        → HoldsTurned t None turn.split lists.old tally.old made.old out.old x
         → Chose turn t.clocks x a.occurrence candidates choice
-        → HoldsTurned t result turn.split lists.new tally.new made.new out.new
+        → HoldsTurned t (result_err result) turn.split lists.new tally.new made.new out.new
         (arrives (setting_of (length out.old) t.clocks loggers.now) node turn.place x a) }
     ensures beyond { Beyond out.old out.new (bytes_in tally.old)
         (findings_in tally.new) (bytes_in tally.new) }
@@ -168,7 +166,7 @@ fn by_row(
     let from = other.from;
     let to = other.to;
     let all = &lists[..];
-    let end = arrivals::emit_made(
+    arrivals::emit_made(
         tally,
         made,
         &all[from..to],
@@ -180,13 +178,10 @@ fn by_row(
         globals,
         loggers,
         out,
-    );
-    if end.is_reached() {
-        return end;
-    }
+    )?;
     waiting_lists::remove_from(&mut lists[from..to], choice.removed);
     if !arrivals::waits(turn.action, turn.context, candidates) {
-        return Limit::None;
+        return Ok(());
     }
     arrivals::wait(&mut lists[own_from..own_to], o)
 }
@@ -206,15 +201,15 @@ fn carry_out(
     globals: &[u64],
     loggers: &LoggerNumbers,
     out: &mut [u8],
-) -> Limit
+) -> Result<(), Limit>
     requires { Offered turn ticks.now globals.now lists.old tally.old made.old out.old o.now × InOutput tally.old out.old
         × Spares turn lists.old 1 × Halves turn (length lists.old) own other }
     ensures acts { (t : Notes ticks.now globals.now) (node : Node) (x : Turned) (a : Arrival)
         → Looks turn.action → (turn.action ≡ 4 → ⊥)
         → Takes node turn → a.input ≡ turn.input → Stands t o.now a.occurrence
-        → HoldsTurned t Limit.None turn.split lists.old tally.old made.old out.old x
+        → HoldsTurned t None turn.split lists.old tally.old made.old out.old x
         → Chose turn t.clocks x a.occurrence candidates choice
-        → HoldsTurned t result turn.split lists.new tally.new made.new out.new
+        → HoldsTurned t (result_err result) turn.split lists.new tally.new made.new out.new
         (arrives (setting_of (length out.old) t.clocks loggers.now) node turn.place x a) }
     ensures beyond { Beyond out.old out.new (bytes_in tally.old)
         (findings_in tally.new) (bytes_in tally.new) }
@@ -244,13 +239,13 @@ fn meet(
     globals: &[u64],
     loggers: &LoggerNumbers,
     out: &mut [u8],
-) -> Limit
+) -> Result<(), Limit>
     requires { Offered turn ticks.now globals.now lists.old tally.old made.old out.old o.now × InOutput tally.old out.old
         × Spares turn lists.old 1 × Halves turn (length lists.old) own other }
     ensures acts { (t : Notes ticks.now globals.now) (node : Node) (x : Turned) (a : Arrival)
         → Looks turn.action → Takes node turn → a.input ≡ turn.input → Stands t o.now a.occurrence
-        → HoldsTurned t Limit.None turn.split lists.old tally.old made.old out.old x
-        → HoldsTurned t result turn.split lists.new tally.new made.new out.new
+        → HoldsTurned t None turn.split lists.old tally.old made.old out.old x
+        → HoldsTurned t (result_err result) turn.split lists.new tally.new made.new out.new
         (arrives (setting_of (length out.old) t.clocks loggers.now) node turn.place x a) }
     ensures beyond { Beyond out.old out.new (bytes_in tally.old)
         (findings_in tally.new) (bytes_in tally.new) }
@@ -270,7 +265,7 @@ fn meet(
     );
     if turn.action == DELETE {
         waiting_lists::remove_from(&mut lists[from..to], candidates);
-        return Limit::None;
+        return Ok(());
     }
     let choice = arrivals::choice_of(turn.context, &all[from..to], candidates, ticks, globals);
     carry_out(
@@ -289,13 +284,13 @@ fn act(
     globals: &[u64],
     loggers: &LoggerNumbers,
     out: &mut [u8],
-) -> Limit
+) -> Result<(), Limit>
     requires { Offered turn ticks.now globals.now lists.old tally.old made.old out.old o.now × InOutput tally.old out.old
         × Spares turn lists.old 1 }
     ensures acts { (t : Notes ticks.now globals.now) (node : Node) (x : Turned) (a : Arrival)
         → Takes node turn → a.input ≡ turn.input → Stands t o.now a.occurrence
-        → HoldsTurned t Limit.None turn.split lists.old tally.old made.old out.old x
-        → HoldsTurned t result turn.split lists.new tally.new made.new out.new
+        → HoldsTurned t None turn.split lists.old tally.old made.old out.old x
+        → HoldsTurned t (result_err result) turn.split lists.new tally.new made.new out.new
         (arrives (setting_of (length out.old) t.clocks loggers.now) node turn.place x a) }
     ensures beyond { Beyond out.old out.new (bytes_in tally.old)
         (findings_in tally.new) (bytes_in tally.new) }
@@ -313,7 +308,7 @@ fn act(
         return arrivals::wait(&mut lists[from..to], o);
     }
     if NOTHING <= action {
-        return Limit::None;
+        return Ok(());
     }
     let other = part_of(!is_left, turn.split, end);
     meet(
@@ -332,35 +327,19 @@ pub fn input_turn(
     globals: &[u64],
     loggers: &LoggerNumbers,
     out: &mut [u8],
-) -> Limit
+) -> Result<(), Limit>
     requires { AllOffered turn ticks.now globals.now lists.old tally.old made.old out.old arrivals.now × InOutput tally.old out.old
         × Spares turn lists.old (length arrivals.now) }
     ensures turns { (t : Notes ticks.now globals.now) (node : Node) (x : Turned) (l : List Occurrence) (event : ℕ)
         → Takes node turn → Stand t arrivals.now l
-        → HoldsTurned t Limit.None turn.split lists.old tally.old made.old out.old x
-        → HoldsTurned t result turn.split lists.new tally.new made.new out.new
+        → HoldsTurned t None turn.split lists.old tally.old made.old out.old x
+        → HoldsTurned t (result_err result) turn.split lists.new tally.new made.new out.new
         (input_turn (setting_of (length out.old) t.clocks loggers.now) node turn.place event turn.input l x) }
     ensures beyond { Beyond out.old out.new (bytes_in tally.old)
         (findings_in tally.new) (bytes_in tally.new) }
 {
-    let n = arrivals.len();
-    let mut i: usize = 0;
-    while i < n {
-        let limit = act(
-            turn,
-            lists,
-            tally,
-            made,
-            &arrivals[i],
-            ticks,
-            globals,
-            loggers,
-            out,
-        );
-        if limit.is_reached() {
-            return limit;
-        }
-        i = i + 1;
+    for o in arrivals {
+        act(turn, lists, tally, made, o, ticks, globals, loggers, out)?;
     }
-    Limit::None
+    Ok(())
 }
