@@ -107,20 +107,15 @@ fn accumulate(
     ensures beyond { Beyond out.old out.new (bytes_in tally.old)
         (findings_in tally.new) (bytes_in tally.new) }
 {
-    let own_from = own.from;
-    let own_to = own.to;
-    let from = other.from;
-    let to = other.to;
-    let all = &lists[..];
-    let earlier = contexts::before_arrival(&all[own_from..own_to], o, ticks, globals);
+    let earlier = contexts::before_arrival(&lists[own.from..own.to], o, ticks, globals);
     arrivals::emit_accumulated(
         tally,
         made,
         choice.taken,
         turn.context,
-        &all[from..to],
+        &lists[other.from..other.to],
         earlier,
-        &all[own_from..own_to],
+        &lists[own.from..own.to],
         o,
         turn.place,
         ticks,
@@ -128,8 +123,8 @@ fn accumulate(
         loggers,
         out,
     )?;
-    waiting_lists::remove_from(&mut lists[from..to], candidates);
-    waiting_lists::remove_from(&mut lists[own_from..own_to], earlier);
+    waiting_lists::remove_from(&mut lists[other.from..other.to], candidates);
+    waiting_lists::remove_from(&mut lists[own.from..own.to], earlier);
     Ok(())
 }
 
@@ -161,15 +156,10 @@ fn by_row(
     ensures beyond { Beyond out.old out.new (bytes_in tally.old)
         (findings_in tally.new) (bytes_in tally.new) }
 {
-    let own_from = own.from;
-    let own_to = own.to;
-    let from = other.from;
-    let to = other.to;
-    let all = &lists[..];
     arrivals::emit_made(
         tally,
         made,
-        &all[from..to],
+        &lists[other.from..other.to],
         choice.taken,
         o,
         turn.context,
@@ -179,11 +169,11 @@ fn by_row(
         loggers,
         out,
     )?;
-    waiting_lists::remove_from(&mut lists[from..to], choice.removed);
+    waiting_lists::remove_from(&mut lists[other.from..other.to], choice.removed);
     if !arrivals::waits(turn.action, turn.context, candidates) {
         return Ok(());
     }
-    arrivals::wait(&mut lists[own_from..own_to], o)
+    arrivals::wait(&mut lists[own.from..own.to], o)
 }
 
 // What an arrival does with its candidates, and with what the context chooses of them.
@@ -250,24 +240,19 @@ fn meet(
     ensures beyond { Beyond out.old out.new (bytes_in tally.old)
         (findings_in tally.new) (bytes_in tally.new) }
 {
-    let own_from = own.from;
-    let own_to = own.to;
-    let from = other.from;
-    let to = other.to;
-    let all = &lists[..];
     let candidates = arrivals::candidates_of(
         turn.action,
-        &all[own_from..own_to],
-        &all[from..to],
+        &lists[own.from..own.to],
+        &lists[other.from..other.to],
         o,
         ticks,
         globals,
     );
     if turn.action == DELETE {
-        waiting_lists::remove_from(&mut lists[from..to], candidates);
+        waiting_lists::remove_from(&mut lists[other.from..other.to], candidates);
         return Ok(());
     }
-    let choice = arrivals::choice_of(turn.context, &all[from..to], candidates, ticks, globals);
+    let choice = arrivals::choice_of(turn.context, &lists[other.from..other.to], candidates, ticks, globals);
     carry_out(
         turn, candidates, choice, own, other, lists, tally, made, o, ticks, globals, loggers, out,
     )
@@ -295,19 +280,16 @@ fn act(
     ensures beyond { Beyond out.old out.new (bytes_in tally.old)
         (findings_in tally.new) (bytes_in tally.new) }
 {
-    let action = turn.action;
-    if action == PASS {
+    if turn.action == PASS {
         return emissions::emit_one(tally, made, turn.place, o, ticks, loggers, out);
     }
     let end = lists.len();
     let is_left = turn.input == 0;
     let own = part_of(is_left, turn.split, end);
-    let from = own.from;
-    let to = own.to;
-    if action == WAIT {
-        return arrivals::wait(&mut lists[from..to], o);
+    if turn.action == WAIT {
+        return arrivals::wait(&mut lists[own.from..own.to], o);
     }
-    if NOTHING <= action {
+    if NOTHING <= turn.action {
         return Ok(());
     }
     let other = part_of(!is_left, turn.split, end);
