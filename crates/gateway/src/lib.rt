@@ -33,15 +33,20 @@ fn turned_back(number: u64, place: usize) -> Answer
 fn ended(run: detector::Run) -> Answer
     ensures { (p : Progress) (out out' : List ℕ) → Says p out run out' → Answers (end_of p) out result out' }
 {
-    let (number, place) = match run.ended {
-        Some(stop) => (stop.limit.number(), stop.event as u64),
-        None => (0, 0),
-    };
-    Answer {
-        number,
-        place,
-        findings: run.findings,
-        bytes: run.bytes as u64,
+    let bytes = run.bytes as u64;
+    match run.ended {
+        Some(stop) => Answer {
+            number: stop.limit.number(),
+            place: stop.event as u64,
+            findings: run.findings,
+            bytes,
+        },
+        None => Answer {
+            number: 0,
+            place: 0,
+            findings: run.findings,
+            bytes,
+        },
     }
 }
 
