@@ -211,8 +211,8 @@ pub fn emit_accumulated(
     let mut i = waiting_lists::first_marked(rest);
     while i < n {
         let group = next_group(context, rest);
-        let c = contexts::accumulated(lefts, group.lefts, middles, earlier, o, ticks, globals);
-        emissions::emit_one(tally, made, place, &c, ticks, loggers, out)?;
+        let all = contexts::accumulated(lefts, group.lefts, middles, earlier, o, ticks, globals);
+        emissions::emit_one(tally, made, place, &all, ticks, loggers, out)?;
         rest = group.rest;
         i = waiting_lists::first_marked(rest);
     }

@@ -240,10 +240,11 @@ fn meet(
     ensures beyond { Beyond out.old out.new (bytes_in tally.old)
         (findings_in tally.new) (bytes_in tally.new) }
 {
+    let those = &lists[other.from..other.to];
     let candidates = arrivals::candidates_of(
         turn.action,
         &lists[own.from..own.to],
-        &lists[other.from..other.to],
+        those,
         o,
         ticks,
         globals,
@@ -252,7 +253,7 @@ fn meet(
         waiting_lists::remove_from(&mut lists[other.from..other.to], candidates);
         return Ok(());
     }
-    let choice = arrivals::choice_of(turn.context, &lists[other.from..other.to], candidates, ticks, globals);
+    let choice = arrivals::choice_of(turn.context, those, candidates, ticks, globals);
     carry_out(
         turn, candidates, choice, own, other, lists, tally, made, o, ticks, globals, loggers, out,
     )

@@ -26,7 +26,10 @@ list_of-waiting-requires c =
 pub loop-i-init : goal.loop-i-init
 unfolding emitted_all accumulated_of
 loop-i-init c = (
-  c.first_marked-i.ensures, refl, beyond_none c.requires.1.0 c.requires.1.1, λ t k l s x g h m p early. record { so_far = s; emits = m; same = refl },
+  c.first_marked-i.ensures,
+  refl,
+  beyond_none c.requires.1.0 c.requires.1.1,
+  λ t k l s x g h m p early. record { so_far = s; emits = m; same = refl },
 )
 
 pub next_group-group-requires : goal.next_group-group-requires
@@ -34,15 +37,15 @@ next_group-group-requires c =
     let ((t, k, l, s, x, g, h, m, p), fits) = c.requires in
     omega (arith, c.loop-i-test.true, c.loop-i.invariant.0, read-few t c.args.lefts.now l h c.list_of-waiting.result c.list_of-waiting.ensures)
 
-pub accumulated-c-requires : goal.accumulated-c-requires
-accumulated-c-requires c =
+pub accumulated-all-requires : goal.accumulated-all-requires
+accumulated-all-requires c =
     let ((t, k, l, s, x, g, h, m, p), fits) = c.requires in
     (t, l, k, x, h, g, p)
 
 pub emit_one-requires : goal.emit_one-requires
 emit_one-requires c =
     let ((t, k, l, s, x, g, h, m, p), fits) = c.requires in
-    ((λ j b. (c.accumulated-c.ensures.within j b).0), t.no_tick, (c.loop-i.invariant.2.within, c.loop-i.invariant.2.few))
+    ((λ j b. (c.accumulated-all.ensures.within j b).0), t.no_tick, (c.loop-i.invariant.2.within, c.loop-i.invariant.2.few))
 
 pub returns-in_err-emit_one : goal.returns-in_err-emit_one
 returns-in_err-emit_one c =
@@ -54,7 +57,7 @@ returns-in_err-emit_one c =
           let r = c.loop-i.invariant.3 t k l s x g h m q early in
           let read = c.list_of-waiting in
           let next = c.next_group-group.ensures.0 l (omega (arith, c.loop-i.invariant.0, c.loop-i-test.true, read_length t a.lefts.now l h read.result read.ensures)) in
-          let st = c.accumulated-c.ensures.stands t l k x h g q early next.1 in
+          let st = c.accumulated-all.ensures.stands t l k x h g q early next.1 in
           let then = c.in_err-emit_one.ensures.emits a.globals.now t r.so_far (accumulation_of t.clocks (marked l (marks_of group.lefts)) k x) r.emits st in
           let finds = (row_of a.context).finds in
           rw (p.1, p.2)
@@ -75,7 +78,7 @@ loop-i-preserved c = let a = c.args in let group = c.next_group-group.result in 
       let r = c.loop-i.invariant.3 t k l s x g h m p early in
       let read = c.list_of-waiting in
       let next = c.next_group-group.ensures.0 l (omega (arith, c.loop-i.invariant.0, c.loop-i-test.true, read_length t a.lefts.now l h read.result read.ensures)) in
-      let st = c.accumulated-c.ensures.stands t l k x h g p early next.1 in
+      let st = c.accumulated-all.ensures.stands t l k x h g p early next.1 in
       record {
         so_far = emitted (length c.loop-i.out) a.loggers.now a.place r.so_far (accumulation_of t.clocks (marked l (marks_of group.lefts)) k x);
         emits = c.in_ok-emit_one.ensures.emits a.globals.now t r.so_far _ r.emits st;
