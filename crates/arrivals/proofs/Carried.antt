@@ -12,7 +12,7 @@ use Rattle.occurrences.specs.declared.Occurrence.{Occurrence}
 use Rattle.contexts.specs.Choice.{chosen, seq_candidates}
 use Rattle.contexts.specs.Made.{accumulated_of, made_of}
 use Rattle.contexts.specs.Table.{Context}
-use Rattle.emissions.specs.declared.Limit.TheVariants.{None}
+use Rattle.std.specs.Prelude.{None}
 use Rattle.emissions.specs.Emissions.{Emitting, emitted, emitted_all, reached}
 use Rattle.arrivals.specs.Meetings.{Action, Arrival, Meeting, Setting, Sides, action_from, appended, candidates_of, carried_out, cleared_by, made_by, meeting_of, removed_by, sides, waits_by}
 use Rattle.arrivals.specs.Views.{Looks}

@@ -1,18 +1,23 @@
 -- What an arrival makes goes out: one for each marked, from the first mark on, or one for all.
-use mathlib.Core.Bool.{Bool, false}
+use mathlib.Core.Bool.{Bool, true, false}
 use mathlib.Core.List.{List, [], ◌∷◌, map}
-use mathlib.Core.Path.{◌≡◌, sym, ap, ◌∙◌}
+use mathlib.Core.Path.{◌≡◌, refl, sym, ap, subst, ◌∙◌}
 use Prim.Native.Nat.{ℕ, ◌≤◌, ◌<◌}
 use lib.ListN.{get_or, length, set}
 use Rattle.sequences.specs.Loops.{fold}
 use Rattle.sequences.specs.Marks.{first_mark, marked}
-use Rattle.sequences.proofs.Loops.{fold-none, fold_next}
+use Rattle.sequences.proofs.Loops.{fold-none, fold_next, fold_still}
 use Rattle.sequences.proofs.Marks.{marked-first, marked-none}
 use Rattle.timestamps.specs.Order.{Clocks}
 use Rattle.occurrences.specs.declared.Occurrence.{Occurrence}
+use Rattle.occurrences.specs.Packed.{Notes}
 use Rattle.contexts.specs.Made.{made_of}
 use Rattle.contexts.specs.Table.{Findings}
-use Rattle.emissions.specs.Emissions.{Emitting, emitted, emitted_all}
+use Rattle.emissions.specs.declared.Limit.{Limit}
+use Rattle.emissions.specs.declared.Tally.{Tally}
+use Rattle.emissions.specs.Emissions.{Emits, Emitting, emitted, emitted_all, reached}
+use Rattle.emissions.proofs.Limits.{emitted_still}
+use Rattle.std.specs.Prelude.{Option, Some}
 
 -- ---- a loop over those marked that passes on something made of each
 module _ {S A B : Type 0} (f : S → B → S) (g : A → B) (l : List A) (m : List Bool) where
@@ -39,3 +44,9 @@ module _ (room : ℕ) (loggers : List ℕ) (place : ℕ) (e : Emitting) (l : Lis
 pub emits_by : (room : ℕ) (loggers : List ℕ) (place : ℕ) (e r : Emitting) (x y : Findings) (clocks : Clocks) (those : List Occurrence) (o : Occurrence) → x ≡ y
     → r ≡ emitted_all room loggers place e (made_of y clocks those o) → r ≡ emitted_all room loggers place e (made_of x clocks those o)
 emits_by room loggers place e r x y clocks those o h k = rw h k
+
+-- a limit is met: whatever was left to make, that is all
+pub emits_stopped : {ticks globals : List ℕ} (t : Notes ticks globals) (room : ℕ) (loggers : List ℕ) (place : ℕ) {tally : Tally} {row : List (List ℕ)} {out : List ℕ} {met : Option Limit} {e whole : Emitting}
+    → Emits t met tally row out e → reached met ≡ true → (left : List Occurrence) → fold (emitted room loggers place) left e ≡ whole → Emits t met tally row out whole
+emits_stopped t room loggers place {met = met} {e = e} h r left same =
+    subst (Emits t met _ _ _) (sym (fold_still _ e (emitted_still room loggers place e (ap reached h.limit ∙ r)) left) ∙ same) h

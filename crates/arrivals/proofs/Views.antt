@@ -3,11 +3,12 @@ use mathlib.Core.List.{List}
 use mathlib.Core.Path.{◌≡◌}
 use Prim.Native.Nat.{ℕ}
 use Rattle.occurrences.specs.Packed.{Notes}
-use Rattle.emissions.specs.declared.Limit.TheVariants.{None}
+use Rattle.std.specs.Prelude.{None}
+use Rattle.emissions.specs.declared.Tally.{Tally}
 use Rattle.emissions.specs.Emissions.{Emits, Emitting}
 
 -- the tally stands for what was made so far, without a limit, and what is left of it, `rest`, comes to the whole
-pub record Left {ticks globals : List ℕ} (t : Notes ticks globals) (tally : List ℕ) (row : List (List ℕ)) (out : List ℕ) (rest : Emitting → Emitting) (whole : Emitting) : Type 0 where
+pub record Left {ticks globals : List ℕ} (t : Notes ticks globals) (tally : Tally) (row : List (List ℕ)) (out : List ℕ) (rest : Emitting → Emitting) (whole : Emitting) : Type 0 where
   pub so_far : Emitting
   pub emits : Emits t None tally row out so_far
   pub same : rest so_far ≡ whole

@@ -1,5 +1,5 @@
 -- Document 01, "How an event is worked": a meeting says all that an arrival does at a node, and the working follows it.
-use Rattle.std.specs.Prelude.{Bool, true, false, not, List, [], ◌∷◌, ℕ, eqb}
+use Rattle.std.specs.Prelude.{Bool, true, false, not, List, [], ◌∷◌, Option, None, Some, ℕ, eqb}
 use Rattle.sequences.specs.Choice.{pick}
 use Rattle.sequences.specs.Marks.{marked, padded, unmarked}
 use Rattle.sequences.specs.Select.{some_passes}
@@ -10,7 +10,7 @@ use Rattle.contexts.specs.Choice.{absence_candidates, and_candidates, chosen, se
 use Rattle.contexts.specs.Made.{accumulated_of, made_of}
 use Rattle.contexts.specs.Table.{Afterwards, joins, consumed, Context, Findings}
 use Rattle.emissions.specs.declared.Limit.{Limit}
-use Rattle.emissions.specs.declared.Limit.TheVariants.{None, ListFull}
+use Rattle.emissions.specs.declared.Limit.TheVariants.{ListFull}
 use Rattle.emissions.specs.Emissions.{Emitting, emitted_all, ended, reached}
 
 -- what holds for all nodes of a passage: how many output bytes are lent, the plan's clocks, its logger numbers by place
@@ -157,8 +157,8 @@ abbrev pub sides : List Occurrence → List Occurrence → Emitting → Sides
 sides own other e = record { own = own; other = other; emit = e }
 
 -- the append: 31 where the list already holds 16, which then stays as it is
-abbrev pub full_limit : List Occurrence → Limit
-full_limit l = pick (is_full l) ListFull None
+abbrev pub full_limit : List Occurrence → Option Limit
+full_limit l = pick (is_full l) (Some ListFull) None
 
 unfoldable pub appended : List Occurrence → List Occurrence → Emitting → Occurrence → Sides
 appended own other e o = sides (appended_to own o) other (pick (is_full own) (ended e ListFull) e)

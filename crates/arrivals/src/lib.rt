@@ -2,7 +2,8 @@
 // Waiting lists, a row for what the node makes and a tally are lent; what is returned is the limit that ends the work, if one is met.
 #![tactic(auto)]
 
-ghost use Rattle.std.specs.Prelude.{List, ◌∷◌, map, ◌≡◌, ℕ, ◌<◌, length};
+ghost use Rattle.std.specs.Prelude.{List, ◌∷◌, None, map, ◌≡◌, ℕ, ◌<◌, length};
+ghost use Rattle.std.specs.Result.{result_err};
 ghost use Rattle.sequences.specs.Marks.{first_mark, marked};
 ghost use Rattle.detections.specs.Writing.{Beyond};
 ghost use Rattle.occurrences.specs.declared.Occurrence.{Occurrence};
@@ -57,11 +58,11 @@ fn emit_each(
     globals: &[u64],
     loggers: &LoggerNumbers,
     out: &mut [u8],
-) -> Limit
+) -> Result<(), Limit>
     requires { Meets ticks.now globals.now list.now tally.old made.old out.old o.now × InOutput tally.old out.old }
     ensures emits { (t : Notes ticks.now globals.now) (l : List Occurrence) (s : Emitting) (x : Occurrence)
-        → Waits t list.now l → Emits t Limit.None tally.old made.old out.old s → Stands t o.now x
-        → Emits t result tally.new made.new out.new
+        → Waits t list.now l → Emits t None tally.old made.old out.old s → Stands t o.now x
+        → Emits t (result_err result) tally.new made.new out.new
         (emitted_all (length out.old) loggers.now place s (map (λ w. combined_of t.clocks w x) (marked l (marks_of taken)))) }
     ensures beyond { Beyond out.old out.new (bytes_in tally.old)
         (findings_in tally.new) (bytes_in tally.new) }
@@ -73,15 +74,12 @@ fn emit_each(
     while i < n {
         let at = waiting_lists::place_at(waiting, i);
         let c = occurrences::combined(&list[at], o, ticks, globals);
-        let limit = emissions::emit_one(tally, made, place, &c, ticks, loggers, out);
-        if limit.is_reached() {
-            return limit;
-        }
+        emissions::emit_one(tally, made, place, &c, ticks, loggers, out)?;
         // Without its lowest mark.
         rest = rest & (rest - 1);
         i = waiting_lists::first_marked(rest);
     }
-    Limit::None
+    Ok(())
 }
 
 // One finding for all taken together, if any is.
@@ -96,11 +94,11 @@ fn emit_together(
     globals: &[u64],
     loggers: &LoggerNumbers,
     out: &mut [u8],
-) -> Limit
+) -> Result<(), Limit>
     requires { Meets ticks.now globals.now list.now tally.old made.old out.old o.now × InOutput tally.old out.old }
     ensures emits { (t : Notes ticks.now globals.now) (l : List Occurrence) (s : Emitting) (x : Occurrence)
-        → Waits t list.now l → Emits t Limit.None tally.old made.old out.old s → Stands t o.now x
-        → Emits t result tally.new made.new out.new
+        → Waits t list.now l → Emits t None tally.old made.old out.old s → Stands t o.now x
+        → Emits t (result_err result) tally.new made.new out.new
         (emitted_all (length out.old) loggers.now place s (made_of together t.clocks (marked l (marks_of taken)) x)) }
     ensures beyond { Beyond out.old out.new (bytes_in tally.old)
         (findings_in tally.new) (bytes_in tally.new) }
@@ -109,7 +107,7 @@ fn emit_together(
     let waiting = waiting_lists::list_of(list);
     let n = waiting.len;
     if n <= first {
-        return Limit::None;
+        return Ok(());
     }
     let all = contexts::all_combined(list, taken, o, ticks, globals);
     emissions::emit_one(tally, made, place, &all, ticks, loggers, out)
@@ -128,11 +126,11 @@ pub fn emit_made(
     globals: &[u64],
     loggers: &LoggerNumbers,
     out: &mut [u8],
-) -> Limit
+) -> Result<(), Limit>
     requires { Meets ticks.now globals.now list.now tally.old made.old out.old o.now × InOutput tally.old out.old }
     ensures emits { (t : Notes ticks.now globals.now) (l : List Occurrence) (s : Emitting) (x : Occurrence)
-        → Waits t list.now l → Emits t Limit.None tally.old made.old out.old s → Stands t o.now x
-        → Emits t result tally.new made.new out.new
+        → Waits t list.now l → Emits t None tally.old made.old out.old s → Stands t o.now x
+        → Emits t (result_err result) tally.new made.new out.new
         (emitted_all (length out.old) loggers.now place s (made_of (row_of context).finds t.clocks (marked l (marks_of taken)) x)) }
     ensures beyond { Beyond out.old out.new (bytes_in tally.old)
         (findings_in tally.new) (bytes_in tally.new) }
@@ -195,13 +193,13 @@ pub fn emit_accumulated(
     globals: &[u64],
     loggers: &LoggerNumbers,
     out: &mut [u8],
-) -> Limit
+) -> Result<(), Limit>
     requires { MeetsBoth ticks.now globals.now middles.now lefts.now tally.old made.old out.old o.now × InOutput tally.old out.old }
     ensures emits { (t : Notes ticks.now globals.now) (k l : List Occurrence) (s : Emitting) (x : Occurrence)
         → Waits t middles.now k → Waits t lefts.now l
-        → Emits t Limit.None tally.old made.old out.old s → Stands t o.now x
+        → Emits t None tally.old made.old out.old s → Stands t o.now x
         → marks_of earlier ≡ seq_candidates t.clocks k x
-        → Emits t result tally.new made.new out.new
+        → Emits t (result_err result) tally.new made.new out.new
         (emitted_all (length out.old) loggers.now place s
         (accumulated_of (row_of context).finds t.clocks (marked l (marks_of taken)) k x)) }
     ensures beyond { Beyond out.old out.new (bytes_in tally.old)
@@ -213,15 +211,12 @@ pub fn emit_accumulated(
     let mut i = waiting_lists::first_marked(rest);
     while i < n {
         let group = next_group(context, rest);
-        let c = contexts::accumulated(lefts, group.lefts, middles, earlier, o, ticks, globals);
-        let end = emissions::emit_one(tally, made, place, &c, ticks, loggers, out);
-        if end.is_reached() {
-            return end;
-        }
+        let all = contexts::accumulated(lefts, group.lefts, middles, earlier, o, ticks, globals);
+        emissions::emit_one(tally, made, place, &all, ticks, loggers, out)?;
         rest = group.rest;
         i = waiting_lists::first_marked(rest);
     }
-    Limit::None
+    Ok(())
 }
 
 // ---- the meeting
@@ -312,16 +307,16 @@ pub fn waits(action: u16, context: u64, candidates: u64) -> bool
 }
 
 // An arrival is appended: 31 where the list already holds 16.
-pub fn wait(list: &mut [Packed], o: &Packed) -> Limit
+pub fn wait(list: &mut [Packed], o: &Packed) -> Result<(), Limit>
     requires { (0 < length list.old) × Spare list.old 1 }
     ensures { (ticks globals : List ℕ) (t : Notes ticks globals) (l : List Occurrence) (x : Occurrence)
         → Waits t list.old l → Stands t o.now x
-        → Waits t list.new (appended_to l x) × (result ≡ full_limit l) }
+        → Waits t list.new (appended_to l x) × (result_err result ≡ full_limit l) }
 {
     let waiting = waiting_lists::list_of(list);
     if 16 <= waiting.len {
-        return Limit::ListFull;
+        return Err(Limit::ListFull);
     }
     waiting_lists::append_to(list, o);
-    Limit::None
+    Ok(())
 }

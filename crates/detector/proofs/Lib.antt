@@ -1,4 +1,5 @@
 pub mod Answers
+pub mod Dues
 pub mod Events
 pub mod Running
 pub mod Standing

@@ -1,5 +1,5 @@
 -- Document 01, "How an event is worked" and 31 to 33: what a node makes goes to the output and to later nodes.
-use Rattle.std.specs.Prelude.{Bool, true, false, List, [], ◌∷◌, ◌++◌, ◌≡◌, ℕ, ◌+◌, ◌≤◌, leb, ltb, get_or, length, take}
+use Rattle.std.specs.Prelude.{Bool, true, false, List, [], ◌∷◌, ◌++◌, Option, None, Some, ◌≡◌, ℕ, ◌+◌, ◌≤◌, leb, ltb, length, take}
 use Rattle.sequences.specs.Choice.{pick}
 use Rattle.sequences.specs.Loops.{fold}
 use Rattle.detections.specs.Findings.{finding_bytes}
@@ -7,32 +7,30 @@ use Rattle.detections.specs.Views.{finding_of}
 use Rattle.occurrences.specs.declared.Occurrence.{Occurrence}
 use Rattle.occurrences.specs.Packed.{Holds, Notes}
 use Rattle.emissions.specs.declared.Limit.{Limit}
-use Rattle.emissions.specs.declared.Limit.TheVariants.{None, ListFull, NodeFull, OutputFull}
+use Rattle.emissions.specs.declared.Limit.TheVariants.{ListFull, NodeFull, OutputFull}
+use Rattle.emissions.specs.declared.Tally.{Tally}
 
 -- document 01's number of each limit
 unfoldable pub number_of : Limit → ℕ
-number_of None = 0
 number_of ListFull = 31
 number_of NodeFull = 32
 number_of OutputFull = 33
 
 -- a limit has ended the work
-abbrev pub reached : Limit → Bool
+abbrev pub reached : Option Limit → Bool
 reached None = false
-reached ListFull = true
-reached NodeFull = true
-reached OutputFull = true
+reached (Some limit) = true
 
--- a node's findings from this event so far; all findings of the passage, their bytes, and the limit that ended the work
+-- a node's findings from this event so far; all findings of the passage, their bytes, and the limit that ended the work, if one was met
 pub record Emitting : Type 0 where
   pub made : List Occurrence
   pub findings : ℕ
   pub bytes : List ℕ
-  pub limit : Limit
+  pub limit : Option Limit
 
 -- the work ends under this limit; what was made before stays
 abbrev pub ended : Emitting → Limit → Emitting
-ended e limit = record { made = e.made; findings = e.findings; bytes = e.bytes; limit = limit }
+ended e limit = record { made = e.made; findings = e.findings; bytes = e.bytes; limit = Some limit }
 
 -- an occurrence's bytes as a finding of the node at a place
 abbrev pub bytes_of : List ℕ → ℕ → Occurrence → List ℕ
@@ -58,21 +56,21 @@ emitted_all room loggers place e l = fold (emitted room loggers place) l e
 
 -- ---- what the code's values stand for: a tally, beside the row of what the node made and the output
 -- how many the node has made from this event; all findings of the passage; the place after the bytes written
-abbrev pub made_in : List ℕ → ℕ
-made_in tally = get_or tally 0 0
+abbrev pub made_in : Tally → ℕ
+made_in tally = tally.made
 
-abbrev pub findings_in : List ℕ → ℕ
-findings_in tally = get_or tally 1 0
+abbrev pub findings_in : Tally → ℕ
+findings_in tally = tally.findings
 
-abbrev pub bytes_in : List ℕ → ℕ
-bytes_in tally = get_or tally 2 0
+abbrev pub bytes_in : Tally → ℕ
+bytes_in tally = tally.bytes
 
-pub record Emits {ticks globals : List ℕ} (t : Notes ticks globals) (met : Limit) (tally : List ℕ) (row : List (List ℕ)) (out : List ℕ) (s : Emitting) : Type 0 where
+pub record Emits {ticks globals : List ℕ} (t : Notes ticks globals) (met : Option Limit) (tally : Tally) (row : List (List ℕ)) (out : List ℕ) (s : Emitting) : Type 0 where
   pub made : Holds t row (made_in tally) s.made
   pub findings : s.findings ≡ findings_in tally
   pub bytes : s.bytes ≡ take (bytes_in tally) out
   pub limit : s.limit ≡ met
 
 -- the place in the output is within it, and there are no more findings than bytes
-abbrev pub InOutput : (tally out : List ℕ) → Type 0
+abbrev pub InOutput : Tally → (out : List ℕ) → Type 0
 InOutput tally out = (bytes_in tally ≤ length out) × (findings_in tally ≤ bytes_in tally)

@@ -2,10 +2,8 @@
 #![tactic(auto)]
 
 ghost use Rattle.std.specs.Prelude.{false, true, List, ◌⊎◌, ◌≡◌, ℕ, min, ◌-◌, ◌/◌, ◌≤◌, ◌<◌, get_or, length, replicate};
-ghost use Rattle.sequences.specs.Choice.{pick};
 ghost use Rattle.plans.specs.Views.{Slotted};
 ghost use Rattle.passages.specs.Views.{Room};
-ghost use Rattle.emissions.specs.Emissions.{reached};
 ghost use Rattle.progress.specs.Progress.{Progress};
 ghost use Rattle.progress.specs.Seats.{Enough};
 ghost use Rattle.detector.specs.Steps.{Noticed, Runs, Says, SomeReady};
@@ -14,7 +12,6 @@ ghost use Rattle.working.specs.Working.{Answers, FilesWorked, end_of, turned_bac
 ghost use Rattle.gateway.specs.Steps.{PlanHeld, RunsUnder, WorkedUnder};
 
 use detections::LoggerNumbers;
-use emissions::Limit;
 use passages::Places;
 use plans::{Kinds, Loggers, Nodes};
 use slots::{KindPlaces, Seats, SlotTakers};
@@ -32,23 +29,24 @@ fn turned_back(number: u64, place: usize) -> Answer
     }
 }
 
-// The place of an answer: the event that met the limit, or 0.
-fn place_of(limit: Limit, event: usize) -> u64
-    ensures { result ≡ pick (reached limit) event 0 }
-{
-    if limit.is_reached() { event as u64 } else { 0 }
-}
-
 // The answer on a run.
 fn ended(run: detector::Run) -> Answer
     ensures { (p : Progress) (out out' : List ℕ) → Says p out run out' → Answers (end_of p) out result out' }
 {
-    let limit = run.limit;
-    Answer {
-        number: limit.number(),
-        place: place_of(limit, run.event),
-        findings: run.findings,
-        bytes: run.bytes as u64,
+    let bytes = run.bytes as u64;
+    match run.ended {
+        Some(stop) => Answer {
+            number: stop.limit.number(),
+            place: stop.event as u64,
+            findings: run.findings,
+            bytes,
+        },
+        None => Answer {
+            number: 0,
+            place: 0,
+            findings: run.findings,
+            bytes,
+        },
     }
 }
 

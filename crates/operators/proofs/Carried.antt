@@ -6,7 +6,7 @@ use Prim.Native.Nat.{ℕ}
 use Rattle.sequences.proofs.Booleans.{never_both}
 use Rattle.contexts.specs.Table.{Afterwards, row_of}
 use Rattle.plans.specs.declared.Node.{Node}
-use Rattle.emissions.specs.declared.Limit.TheVariants.{None}
+use Rattle.std.specs.Prelude.{None}
 use Rattle.arrivals.specs.Meetings.{Action, pass, wait, meet, meet_and_wait, delete, accumulate, absent, nothing, Arrival, Setting, action_from, carried_out, may_wait, meeting_of, waits_by}
 use Rattle.operators.specs.Table.{action_of}
 use Rattle.operators.specs.Turns.{Turned, arrives, meeting_at, sides_of, turned_of}

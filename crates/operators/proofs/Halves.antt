@@ -1,7 +1,7 @@
 -- The two parts of a node's lists, as an arrival lends them: its own side and the other, also after one of them came back.
 use mathlib.Core.Bool.{not}
 use mathlib.Core.List.{List}
-use mathlib.Core.Path.{◌≡◌, sym, subst, ◌∙◌}
+use mathlib.Core.Path.{◌≡◌, refl, sym, subst, ◌∙◌}
 use Prim.Native.Nat.{ℕ, ◌-◌, ◌≤◌}
 use native.Mathlib.Omega.{arith}
 use lib.Dec.{eqb}
@@ -13,8 +13,12 @@ use Rattle.occurrences.specs.Packed.{Notes}
 use Rattle.waiting_lists.specs.Lists.{Waits}
 use Rattle.operators.specs.declared.Part.{Part}
 use Rattle.operators.specs.declared.Turn.{Turn}
-use Rattle.operators.specs.Views.{Half, Halves, own_part}
-use Rattle.operators.proofs.Sides.{Held, half_is, other_back, other_part, own_back}
+use Rattle.operators.specs.Turns.{Turned, sides_of}
+use Rattle.operators.specs.Views.{Half, Halves, HoldsTurned, own_part}
+use Rattle.operators.proofs.Sides.{Held, half_is, held_of, other_back, other_part, own_back}
+use Rattle.emissions.specs.declared.Limit.{Limit}
+use Rattle.emissions.specs.declared.Tally.{Tally}
+use Rattle.std.specs.Prelude.{Option}
 
 abbrev pub lent : Part → List (List ℕ) → List (List ℕ)
 lent p l = take (p.to - p.from) (drop p.from l)
@@ -61,3 +65,36 @@ module _ (turn : Turn) (end : ℕ) (own other : Part) (halves : Halves turn end 
 
       pub other-then : length w ≡ length (lent other l) → Held t input split (back other.from other.to l w) mine those
       other-then many = other_back t input split l w mine others h _ _ (many ∙ other-long) halves.1.from (rw long halves.1.to) those q
+
+-- ---- an arrival's two sides, as they are lent
+module _ (turn : Turn) (own other : Part) {ticks globals : List ℕ} (t : Notes ticks globals) {met : Option Limit} {lists : List (List ℕ)} {tally : Tally} {made : List (List ℕ)} {out : List ℕ}
+    (x : Turned) (h : HoldsTurned t met turn.split lists tally made out x) (halves : Halves turn (length lists) own other) where
+  abbrev pub mine : List Occurrence
+  mine = (sides_of turn.input x).own
+
+  abbrev pub others : List Occurrence
+  others = (sides_of turn.input x).other
+
+  pub held : Held t turn.input turn.split lists mine others
+  held = held_of t turn.input turn.split x h
+
+  pub mine-wait : Waits t (lent own lists) mine
+  mine-wait = own_wait turn _ own other halves h.waits.inside lists refl t mine others held
+
+  pub others-wait : Waits t (lent other lists) others
+  others-wait = other_wait turn _ own other halves h.waits.inside lists refl t mine others held
+
+  -- the others come back, fewer
+  module _ (w : List (List ℕ)) (many : length w ≡ length (lent other lists)) where
+    abbrev pub then : List (List ℕ)
+    then = back other.from other.to lists w
+
+    pub then-long : length then ≡ length lists
+    then-long = other-kept turn _ own other halves h.waits.inside lists refl w many
+
+    module _ (those : List Occurrence) (q : Waits t w those) where
+      pub then-held : Held t turn.input turn.split then mine those
+      then-held = other-then turn _ own other halves h.waits.inside lists refl t mine others held w those q many
+
+      pub mine-still : Waits t (lent own then) mine
+      mine-still = own_wait turn _ own other halves h.waits.inside then then-long t mine those then-held

@@ -12,10 +12,12 @@ use Rattle.sequences.specs.Choice.{pick}
 use Rattle.sequences.specs.Loops.{fold, loop}
 use Rattle.sequences.specs.Marks.{unmarked}
 use Rattle.sequences.proofs.Booleans.{false_of_not_true, never_both}
-use Rattle.sequences.proofs.Loops.{fold-append, fold_next, fold-none, fold_still, fold-whole}
+use Rattle.sequences.proofs.Loops.{fold-append, fold-before, fold_next, fold-none, fold_still, fold-whole}
 use Rattle.sequences.proofs.Marks.{unmarked-length}
 use Rattle.occurrences.specs.declared.Occurrence.{Occurrence}
 use Rattle.occurrences.specs.Occurrences.{no_occurrence}
+use Rattle.occurrences.specs.Packed.{Notes, Stand, Stands}
+use Rattle.occurrences.proofs.Packed.{stand-at, stand-length}
 use Rattle.waiting_lists.specs.Waiting.{appended_to}
 use Rattle.waiting_lists.proofs.Appends.{appended_full, appended-room}
 use Rattle.plans.specs.declared.Node.{Node}
@@ -42,6 +44,23 @@ unfolding in_order
 in_order-at event input place [] i h = absurd (omega arith)
 in_order-at event input place (o ∷ l) zero h = let z : place + 0 ≡ place = omega arith in rw z
 in_order-at event input place (o ∷ l) (suc i) h = let z : place + suc i ≡ place + 1 + i = omega arith in rw z (in_order-at event input (place + 1) l i (omega arith))
+
+-- the arrival at place i of an input, among those that stand in rows
+module _ (event input : ℕ) (l : List Occurrence) (i : ℕ) where
+  abbrev pub arrival-at : Arrival
+  arrival-at = get_or (in_order event input 0 l) i no_arrival
+
+  pub stands_at : {ticks globals : List ℕ} (t : Notes ticks globals) (rows : List (List ℕ)) → Stand t rows l → i < length rows → Stands t (get_or rows i []) arrival-at.occurrence
+  stands_at t rows g h =
+      let in_l : i < length l = omega (arith, h, stand-length t rows l g) in
+      subst (λ (o : Occurrence). Stands t (get_or rows i []) o) (sym (ap (λ (x : Arrival). x.occurrence) (in_order-at event input 0 l i in_l))) (stand-at t rows l i g h)
+
+  pub by_input : i < length l → arrival-at.input ≡ input
+  by_input h = ap (λ (x : Arrival). x.input) (in_order-at event input 0 l i h)
+
+  pub one_more : (s : Setting) (node : Node) (place : ℕ) (x : Turned) → i < length l
+      → arrives s node place (fold (arrives s node place) (take i (in_order event input 0 l)) x) arrival-at ≡ fold (arrives s node place) (take (i + 1) (in_order event input 0 l)) x
+  one_more s node place x h = sym (fold-before (arrives s node place) (in_order event input 0 l) i x no_arrival (omega (arith, h, in_order-length event input 0 l)))
 
 -- where nothing arrives the node is left alone
 pub input_none : (s : Setting) (node : Node) (place event input : ℕ) (t : Turned) → input_turn s node place event input [] t ≡ t

@@ -1,11 +1,10 @@
 -- Document 01, "How an event is worked": a node's turn, arrival by arrival.
-use Rattle.std.specs.Prelude.{List, [], ◌∷◌, ℕ, ◌+◌, eqb, get_or, length}
+use Rattle.std.specs.Prelude.{List, [], ◌∷◌, None, ℕ, ◌+◌, eqb, get_or, length}
 use Rattle.sequences.specs.Choice.{pick}
 use Rattle.sequences.specs.Loops.{fold, loop}
 use Rattle.occurrences.specs.declared.Occurrence.{Occurrence}
 use Rattle.contexts.specs.Table.{row_of}
 use Rattle.plans.specs.declared.Node.{Node}
-use Rattle.emissions.specs.declared.Limit.TheVariants.{None}
 use Rattle.emissions.specs.Emissions.{Emitting, reached}
 use Rattle.arrivals.specs.Meetings.{Arrival, Meeting, Setting, Sides, carried_out, meeting_of, sides}
 use Rattle.operators.specs.Table.{action_of}

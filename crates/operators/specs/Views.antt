@@ -1,5 +1,5 @@
 -- What the code's values stand for, beside what is lent: a node's two waiting lists, what it made, the output.
-use Rattle.std.specs.Prelude.{Bool, true, not, List, ◌≡◌, ℕ, ◌≤◌, eqb, drop, length, take}
+use Rattle.std.specs.Prelude.{Bool, true, not, List, Option, None, ◌≡◌, ℕ, ◌≤◌, eqb, drop, length, take}
 use Rattle.sequences.specs.Choice.{pick}
 use Rattle.timestamps.specs.Order.{Clocks}
 use Rattle.occurrences.specs.declared.Occurrence.{Occurrence}
@@ -11,7 +11,7 @@ use Rattle.contexts.specs.Choice.{chosen}
 use Rattle.contexts.specs.Table.{row_of}
 use Rattle.plans.specs.declared.Node.{Node}
 use Rattle.emissions.specs.declared.Limit.{Limit}
-use Rattle.emissions.specs.declared.Limit.TheVariants.{None}
+use Rattle.emissions.specs.declared.Tally.{Tally}
 use Rattle.emissions.specs.Emissions.{Emits}
 use Rattle.arrivals.specs.Meetings.{action_from, candidates_of, may_wait}
 use Rattle.arrivals.specs.Views.{Spare}
@@ -27,7 +27,7 @@ pub record NodeWaits {ticks globals : List ℕ} (t : Notes ticks globals) (split
   pub middle-waits : Waits t (drop split lists) middle
 
 -- the node in its turn
-pub record HoldsTurned {ticks globals : List ℕ} (t : Notes ticks globals) (met : Limit) (split : ℕ) (lists : List (List ℕ)) (tally : List ℕ) (made : List (List ℕ))
+pub record HoldsTurned {ticks globals : List ℕ} (t : Notes ticks globals) (met : Option Limit) (split : ℕ) (lists : List (List ℕ)) (tally : Tally) (made : List (List ℕ))
     (out : List ℕ) (x : Turned) : Type 0 where
   pub waits : NodeWaits t split lists x.left x.middle
   pub emit : Emits t met tally made out x.emit
@@ -63,11 +63,11 @@ abbrev pub Spares : Turn → (lists : List (List ℕ)) → ℕ → Type 0
 Spares turn lists n = may_wait (action_from turn.action) ≡ true → Spare (own_part turn.input turn.split lists) n
 
 -- ---- that there are such notes and occurrences: of one arrival, and of those of an input of a node, where no limit is met yet
-abbrev pub Offered : (turn : Turn) (ticks globals : List ℕ) (lists : List (List ℕ)) (tally : List ℕ) (made : List (List ℕ)) (out o : List ℕ) → Type 0
+abbrev pub Offered : (turn : Turn) (ticks globals : List ℕ) (lists : List (List ℕ)) (tally : Tally) (made : List (List ℕ)) (out o : List ℕ) → Type 0
 Offered turn ticks globals lists tally made out o =
     (t : Notes ticks globals) × (x : Turned) × (y : Occurrence) × HoldsTurned t None turn.split lists tally made out x × Stands t o y
 
-abbrev pub AllOffered : (turn : Turn) (ticks globals : List ℕ) (lists : List (List ℕ)) (tally : List ℕ) (made : List (List ℕ)) (out : List ℕ) (arrivals : List (List ℕ)) → Type 0
+abbrev pub AllOffered : (turn : Turn) (ticks globals : List ℕ) (lists : List (List ℕ)) (tally : Tally) (made : List (List ℕ)) (out : List ℕ) (arrivals : List (List ℕ)) → Type 0
 AllOffered turn ticks globals lists tally made out arrivals =
     (t : Notes ticks globals) × (node : Node) × (x : Turned) × (l : List Occurrence)
     × Takes node turn × HoldsTurned t None turn.split lists tally made out x × Stand t arrivals l

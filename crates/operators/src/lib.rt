@@ -2,7 +2,8 @@
 // makes and a tally are lent.
 #![tactic(auto)]
 
-ghost use Rattle.std.specs.Prelude.{List, ◌≡◌, ℕ, ◌≤◌, ◌<◌, get_or, length};
+ghost use Rattle.std.specs.Prelude.{List, None, ◌≡◌, ℕ, ◌≤◌, ◌<◌, get_or, length};
+ghost use Rattle.std.specs.Result.{result_err};
 ghost use Rattle.detections.specs.Writing.{Beyond};
 ghost use Rattle.occurrences.specs.declared.Occurrence.{Occurrence};
 ghost use Rattle.occurrences.specs.Packed.{Notes, Stand, Stands};
@@ -94,45 +95,37 @@ fn accumulate(
     globals: &[u64],
     loggers: &LoggerNumbers,
     out: &mut [u8],
-) -> Limit
+) -> Result<(), Limit>
     requires { Offered turn ticks.now globals.now lists.old tally.old made.old out.old o.now × InOutput tally.old out.old
         × Halves turn (length lists.old) own other }
     ensures acts { (t : Notes ticks.now globals.now) (node : Node) (x : Turned) (a : Arrival)
         → turn.action ≡ 5 → Takes node turn → a.input ≡ turn.input → Stands t o.now a.occurrence
-        → HoldsTurned t Limit.None turn.split lists.old tally.old made.old out.old x
+        → HoldsTurned t None turn.split lists.old tally.old made.old out.old x
         → Chose turn t.clocks x a.occurrence candidates choice
-        → HoldsTurned t result turn.split lists.new tally.new made.new out.new
+        → HoldsTurned t (result_err result) turn.split lists.new tally.new made.new out.new
         (arrives (setting_of (length out.old) t.clocks loggers.now) node turn.place x a) }
     ensures beyond { Beyond out.old out.new (bytes_in tally.old)
         (findings_in tally.new) (bytes_in tally.new) }
 {
-    let own_from = own.from;
-    let own_to = own.to;
-    let from = other.from;
-    let to = other.to;
-    let all = &lists[..];
-    let earlier = contexts::before_arrival(&all[own_from..own_to], o, ticks, globals);
-    let limit = arrivals::emit_accumulated(
+    let earlier = contexts::before_arrival(&lists[own.from..own.to], o, ticks, globals);
+    arrivals::emit_accumulated(
         tally,
         made,
         choice.taken,
         turn.context,
-        &all[from..to],
+        &lists[other.from..other.to],
         earlier,
-        &all[own_from..own_to],
+        &lists[own.from..own.to],
         o,
         turn.place,
         ticks,
         globals,
         loggers,
         out,
-    );
-    if limit.is_reached() {
-        return limit;
-    }
-    waiting_lists::remove_from(&mut lists[from..to], candidates);
-    waiting_lists::remove_from(&mut lists[own_from..own_to], earlier);
-    Limit::None
+    )?;
+    waiting_lists::remove_from(&mut lists[other.from..other.to], candidates);
+    waiting_lists::remove_from(&mut lists[own.from..own.to], earlier);
+    Ok(())
 }
 
 // What the context's row says of an arrival: findings first, then the removal, then the append; where a limit is met nothing is removed.
@@ -150,28 +143,23 @@ fn by_row(
     globals: &[u64],
     loggers: &LoggerNumbers,
     out: &mut [u8],
-) -> Limit
+) -> Result<(), Limit>
     requires { Offered turn ticks.now globals.now lists.old tally.old made.old out.old o.now × InOutput tally.old out.old
         × Spares turn lists.old 1 × Halves turn (length lists.old) own other }
     ensures acts { (t : Notes ticks.now globals.now) (node : Node) (x : Turned) (a : Arrival)
         → Looks turn.action → (turn.action ≡ 4 → ⊥) → (turn.action ≡ 5 → ⊥)
         → Takes node turn → a.input ≡ turn.input → Stands t o.now a.occurrence
-        → HoldsTurned t Limit.None turn.split lists.old tally.old made.old out.old x
+        → HoldsTurned t None turn.split lists.old tally.old made.old out.old x
         → Chose turn t.clocks x a.occurrence candidates choice
-        → HoldsTurned t result turn.split lists.new tally.new made.new out.new
+        → HoldsTurned t (result_err result) turn.split lists.new tally.new made.new out.new
         (arrives (setting_of (length out.old) t.clocks loggers.now) node turn.place x a) }
     ensures beyond { Beyond out.old out.new (bytes_in tally.old)
         (findings_in tally.new) (bytes_in tally.new) }
 {
-    let own_from = own.from;
-    let own_to = own.to;
-    let from = other.from;
-    let to = other.to;
-    let all = &lists[..];
-    let end = arrivals::emit_made(
+    arrivals::emit_made(
         tally,
         made,
-        &all[from..to],
+        &lists[other.from..other.to],
         choice.taken,
         o,
         turn.context,
@@ -180,15 +168,12 @@ fn by_row(
         globals,
         loggers,
         out,
-    );
-    if end.is_reached() {
-        return end;
-    }
-    waiting_lists::remove_from(&mut lists[from..to], choice.removed);
+    )?;
+    waiting_lists::remove_from(&mut lists[other.from..other.to], choice.removed);
     if !arrivals::waits(turn.action, turn.context, candidates) {
-        return Limit::None;
+        return Ok(());
     }
-    arrivals::wait(&mut lists[own_from..own_to], o)
+    arrivals::wait(&mut lists[own.from..own.to], o)
 }
 
 // What an arrival does with its candidates, and with what the context chooses of them.
@@ -206,15 +191,15 @@ fn carry_out(
     globals: &[u64],
     loggers: &LoggerNumbers,
     out: &mut [u8],
-) -> Limit
+) -> Result<(), Limit>
     requires { Offered turn ticks.now globals.now lists.old tally.old made.old out.old o.now × InOutput tally.old out.old
         × Spares turn lists.old 1 × Halves turn (length lists.old) own other }
     ensures acts { (t : Notes ticks.now globals.now) (node : Node) (x : Turned) (a : Arrival)
         → Looks turn.action → (turn.action ≡ 4 → ⊥)
         → Takes node turn → a.input ≡ turn.input → Stands t o.now a.occurrence
-        → HoldsTurned t Limit.None turn.split lists.old tally.old made.old out.old x
+        → HoldsTurned t None turn.split lists.old tally.old made.old out.old x
         → Chose turn t.clocks x a.occurrence candidates choice
-        → HoldsTurned t result turn.split lists.new tally.new made.new out.new
+        → HoldsTurned t (result_err result) turn.split lists.new tally.new made.new out.new
         (arrives (setting_of (length out.old) t.clocks loggers.now) node turn.place x a) }
     ensures beyond { Beyond out.old out.new (bytes_in tally.old)
         (findings_in tally.new) (bytes_in tally.new) }
@@ -244,35 +229,31 @@ fn meet(
     globals: &[u64],
     loggers: &LoggerNumbers,
     out: &mut [u8],
-) -> Limit
+) -> Result<(), Limit>
     requires { Offered turn ticks.now globals.now lists.old tally.old made.old out.old o.now × InOutput tally.old out.old
         × Spares turn lists.old 1 × Halves turn (length lists.old) own other }
     ensures acts { (t : Notes ticks.now globals.now) (node : Node) (x : Turned) (a : Arrival)
         → Looks turn.action → Takes node turn → a.input ≡ turn.input → Stands t o.now a.occurrence
-        → HoldsTurned t Limit.None turn.split lists.old tally.old made.old out.old x
-        → HoldsTurned t result turn.split lists.new tally.new made.new out.new
+        → HoldsTurned t None turn.split lists.old tally.old made.old out.old x
+        → HoldsTurned t (result_err result) turn.split lists.new tally.new made.new out.new
         (arrives (setting_of (length out.old) t.clocks loggers.now) node turn.place x a) }
     ensures beyond { Beyond out.old out.new (bytes_in tally.old)
         (findings_in tally.new) (bytes_in tally.new) }
 {
-    let own_from = own.from;
-    let own_to = own.to;
-    let from = other.from;
-    let to = other.to;
-    let all = &lists[..];
+    let those = &lists[other.from..other.to];
     let candidates = arrivals::candidates_of(
         turn.action,
-        &all[own_from..own_to],
-        &all[from..to],
+        &lists[own.from..own.to],
+        those,
         o,
         ticks,
         globals,
     );
     if turn.action == DELETE {
-        waiting_lists::remove_from(&mut lists[from..to], candidates);
-        return Limit::None;
+        waiting_lists::remove_from(&mut lists[other.from..other.to], candidates);
+        return Ok(());
     }
-    let choice = arrivals::choice_of(turn.context, &all[from..to], candidates, ticks, globals);
+    let choice = arrivals::choice_of(turn.context, those, candidates, ticks, globals);
     carry_out(
         turn, candidates, choice, own, other, lists, tally, made, o, ticks, globals, loggers, out,
     )
@@ -289,31 +270,28 @@ fn act(
     globals: &[u64],
     loggers: &LoggerNumbers,
     out: &mut [u8],
-) -> Limit
+) -> Result<(), Limit>
     requires { Offered turn ticks.now globals.now lists.old tally.old made.old out.old o.now × InOutput tally.old out.old
         × Spares turn lists.old 1 }
     ensures acts { (t : Notes ticks.now globals.now) (node : Node) (x : Turned) (a : Arrival)
         → Takes node turn → a.input ≡ turn.input → Stands t o.now a.occurrence
-        → HoldsTurned t Limit.None turn.split lists.old tally.old made.old out.old x
-        → HoldsTurned t result turn.split lists.new tally.new made.new out.new
+        → HoldsTurned t None turn.split lists.old tally.old made.old out.old x
+        → HoldsTurned t (result_err result) turn.split lists.new tally.new made.new out.new
         (arrives (setting_of (length out.old) t.clocks loggers.now) node turn.place x a) }
     ensures beyond { Beyond out.old out.new (bytes_in tally.old)
         (findings_in tally.new) (bytes_in tally.new) }
 {
-    let action = turn.action;
-    if action == PASS {
+    if turn.action == PASS {
         return emissions::emit_one(tally, made, turn.place, o, ticks, loggers, out);
     }
     let end = lists.len();
     let is_left = turn.input == 0;
     let own = part_of(is_left, turn.split, end);
-    let from = own.from;
-    let to = own.to;
-    if action == WAIT {
-        return arrivals::wait(&mut lists[from..to], o);
+    if turn.action == WAIT {
+        return arrivals::wait(&mut lists[own.from..own.to], o);
     }
-    if NOTHING <= action {
-        return Limit::None;
+    if NOTHING <= turn.action {
+        return Ok(());
     }
     let other = part_of(!is_left, turn.split, end);
     meet(
@@ -332,35 +310,19 @@ pub fn input_turn(
     globals: &[u64],
     loggers: &LoggerNumbers,
     out: &mut [u8],
-) -> Limit
+) -> Result<(), Limit>
     requires { AllOffered turn ticks.now globals.now lists.old tally.old made.old out.old arrivals.now × InOutput tally.old out.old
         × Spares turn lists.old (length arrivals.now) }
     ensures turns { (t : Notes ticks.now globals.now) (node : Node) (x : Turned) (l : List Occurrence) (event : ℕ)
         → Takes node turn → Stand t arrivals.now l
-        → HoldsTurned t Limit.None turn.split lists.old tally.old made.old out.old x
-        → HoldsTurned t result turn.split lists.new tally.new made.new out.new
+        → HoldsTurned t None turn.split lists.old tally.old made.old out.old x
+        → HoldsTurned t (result_err result) turn.split lists.new tally.new made.new out.new
         (input_turn (setting_of (length out.old) t.clocks loggers.now) node turn.place event turn.input l x) }
     ensures beyond { Beyond out.old out.new (bytes_in tally.old)
         (findings_in tally.new) (bytes_in tally.new) }
 {
-    let n = arrivals.len();
-    let mut i: usize = 0;
-    while i < n {
-        let limit = act(
-            turn,
-            lists,
-            tally,
-            made,
-            &arrivals[i],
-            ticks,
-            globals,
-            loggers,
-            out,
-        );
-        if limit.is_reached() {
-            return limit;
-        }
-        i = i + 1;
+    for o in arrivals {
+        act(turn, lists, tally, made, o, ticks, globals, loggers, out)?;
     }
-    Limit::None
+    Ok(())
 }

@@ -36,7 +36,8 @@ use Rattle.readings.specs.Reader.{AllFit}
 use Rattle.readings.proofs.Telling.{findings_told}
 use Rattle.readings.proofs.Theorems.{within-fits}
 use Rattle.emissions.specs.declared.Limit.{Limit}
-use Rattle.emissions.specs.declared.Limit.TheVariants.{None, ListFull, NodeFull, OutputFull}
+use Rattle.emissions.specs.declared.Limit.TheVariants.{ListFull, NodeFull, OutputFull}
+use Rattle.std.specs.Prelude.{Option, None, Some}
 use Rattle.emissions.specs.Emissions.{number_of}
 use Rattle.progress.specs.Progress.{numbers_by_place, run_of, stamp_of}
 use Rattle.latest_stamps.specs.Written.{Kept}
@@ -44,7 +45,7 @@ use Rattle.latest_stamps.proofs.Theorems.{accepted-exact}
 use Rattle.working.specs.declared.Answer.{Answer}
 use Rattle.working.specs.Ends.{Ends, LaidOut, passage_fault, plan_fault, works}
 use Rattle.working.specs.Latest.{ExactFinding, LatestExact, WrittenExact, entries_of, stamps_from}
-use Rattle.working.specs.Working.{Answers, Work, answer_numbers, end_of, turned_back, worked}
+use Rattle.working.specs.Working.{Answers, Work, answer_numbers, end_of, number_met, turned_back, worked}
 use Rattle.working.proofs.Latest.{shown-exact, stamps-same}
 
 module _ (plan passage : List ℕ) (room : ℕ) where
@@ -134,12 +135,12 @@ of_passage k l m = Memᴰ.tail (Memᴰ.tail (Memᴰ.append_right (numbers_from 1
 of_working : (k : ℕ) → 31 ≤ k → k ≤ 33 → k is_in answer_numbers
 of_working k l m = Memᴰ.tail (Memᴰ.tail (Memᴰ.append_right (numbers_from 1 12) (Memᴰ.append_right (numbers_from 21 6) (range_in 31 3 k l (omega arith)))))
 
-of_limit : (l : Limit) → number_of l is_in answer_numbers
+of_limit : (l : Option Limit) → number_met l is_in answer_numbers
 unfolding number_of
 of_limit None = Memᴰ.head refl
-of_limit ListFull = of_working 31 (omega arith) (omega arith)
-of_limit NodeFull = of_working 32 (omega arith) (omega arith)
-of_limit OutputFull = of_working 33 (omega arith) (omega arith)
+of_limit (Some ListFull) = of_working 31 (omega arith) (omega arith)
+of_limit (Some NodeFull) = of_working 32 (omega arith) (omega arith)
+of_limit (Some OutputFull) = of_working 33 (omega arith) (omega arith)
 
 -- ---- demand 3 for what is written
 module _ (plan passage : List ℕ) (room : ℕ) (B : Bytes plan) (C : Bytes passage) where

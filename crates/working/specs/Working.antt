@@ -1,11 +1,12 @@
 -- Document 01, "Files" and "Where work is turned back": a passage worked under a plan, both from their bytes.
-use Rattle.std.specs.Prelude.{List, [], ◌∷◌, ◌++◌, ◌≡◌, ℕ, eqb, drop, length}
+use Rattle.std.specs.Prelude.{List, [], ◌∷◌, ◌++◌, Option, None, Some, ◌≡◌, ℕ, eqb, drop, length}
 use Rattle.sequences.specs.Choice.{pick}
 use Rattle.sequences.specs.Range.{numbers_from}
 use Rattle.plans.specs.Layout.{Plan}
 use Rattle.plans.specs.Reader.{PlanAnswer, read_plan}
 use Rattle.passages.specs.Events.{passage_events}
 use Rattle.passages.specs.Reader.{PassageAnswer, read_passage}
+use Rattle.emissions.specs.declared.Limit.{Limit}
 use Rattle.emissions.specs.Emissions.{number_of, reached}
 use Rattle.progress.specs.Progress.{Progress, run_of}
 use Rattle.working.specs.declared.Answer.{Answer}
@@ -25,9 +26,14 @@ answer_numbers = 0 ∷ 41 ∷ (numbers_from 1 12 ++ (numbers_from 21 6 ++ number
 abbrev pub turned_back : ℕ → ℕ → Work
 turned_back number place = record { number = number; place = place; findings = 0; bytes = [] }
 
+-- the number of the limit that was met, 0 for none
+abbrev pub number_met : Option Limit → ℕ
+number_met None = 0
+number_met (Some limit) = number_of limit
+
 -- worked to its end, or to a limit: its place is the number of the event that met it
 abbrev pub end_of : Progress → Work
-end_of p = record { number = number_of p.limit; place = pick (reached p.limit) p.event 0; findings = p.findings; bytes = p.bytes }
+end_of p = record { number = number_met p.limit; place = pick (reached p.limit) p.event 0; findings = p.findings; bytes = p.bytes }
 
 abbrev pub passage_worked : ℕ → Plan → List ℕ → PassageAnswer → Work
 passage_worked room plan passage a = pick (eqb a.number 0) (end_of (run_of room plan (passage_events plan passage))) (turned_back a.number a.place)

@@ -4,7 +4,7 @@ use Rattle.contexts.specs.Made.{accumulated_of, accumulation_of, groups_of}
 use Rattle.contexts.specs.Choice.{seq_candidates}
 use Rattle.contexts.specs.Table.{row_of}
 use Rattle.detections.specs.Writing.{Beyond}
-use Rattle.emissions.specs.declared.Limit.TheVariants.{None}
+use Rattle.std.specs.Prelude.{None}
 use Rattle.emissions.specs.Emissions.{Emits, Emitting, bytes_in, emitted, emitted_all, findings_in}
 use Rattle.occurrences.specs.Packed.{Notes, Stands}
 use Rattle.occurrences.specs.declared.Occurrence.{Occurrence}

@@ -1,7 +1,7 @@
 -- What is left to make, from the state so far, is the whole; i is the first mark left.
 use Rattle.arrivals.proofs.Views.{Left}
 use Rattle.detections.specs.Writing.{Beyond}
-use Rattle.emissions.specs.declared.Limit.TheVariants.{None}
+use Rattle.std.specs.Prelude.{None}
 use Rattle.emissions.specs.Emissions.{Emits, Emitting, bytes_in, emitted, emitted_all, findings_in}
 use Rattle.occurrences.specs.Combination.{combined_of}
 use Rattle.occurrences.specs.Packed.{Notes, Stands}

@@ -14,11 +14,11 @@ use Rattle.emissions.proofs.Emitting.{emits_ninth, emits_no_room, emits_go, has_
 use borrow.Author.Rules.{rules}
 use Rattle.emissions.proofs.emit_one.Goals as goal
 
-pub returns-then-most-n : goal.returns-then-most-n
-returns-then-most-n c =
+pub returns-then-n-ge8 : goal.returns-then-n-ge8
+returns-then-n-ge8 c =
     let eight : length c.args.made.now ≡ 8 = search rules in
     record {
-      emits = λ globals t s x h o. emits_ninth t _ _ h o eight (omega (arith, eight, c.if-most-n.true));
+      emits = λ globals t s x h o. emits_ninth t _ _ h o eight (omega (arith, eight, c.if-n-ge8.true));
       beyond = beyond_none c.requires.2.0 c.requires.2.1;
     }
 
@@ -26,7 +26,7 @@ pub returns-then-not-fits : goal.returns-then-not-fits
 returns-then-not-fits c =
     let a = c.args in
     let eight : length a.made.now ≡ 8 = search rules in
-    let below : made_in a.tally.now < 8 = omega (arith, eight, c.if-most-n.false) in
+    let below : made_in a.tally.now < 8 = omega (arith, eight, c.if-n-ge8.false) in
     let size = no_room _ _ _ c.requires.2.0 (c.fits.ensures a.loggers.now a.place) (ap not c.if-not-fits.true) in
     record {
       emits = λ globals t s x h o. emits_no_room t _ _ h o eight below c.requires.2.0 size;
@@ -42,7 +42,7 @@ pub returns : goal.returns
 returns c =
     let a = c.args in
     let eight : length a.made.now ≡ 8 = search rules in
-    let below : made_in a.tally.now < 8 = omega (arith, eight, c.if-most-n.false) in
+    let below : made_in a.tally.now < 8 = omega (arith, eight, c.if-n-ge8.false) in
     let size = has_room _ _ _ c.requires.2.0 (c.fits.ensures a.loggers.now a.place) (ap not c.if-not-fits.false) in
     let w : Wrote a.out.now (bytes_in a.tally.now) (written_bytes a.ticks.now a.loggers.now a.place a.o.now) c.write-next.result c.write-next.new.out = c.write-next.ensures in
     let found = occurrence_of a.ticks.now a.o.now in

@@ -1,27 +1,23 @@
--- Those before place i came to the node, and no limit was met.
-use Prim.Native.Nat.{ℕ, ◌-◌, ◌≤◌}
+-- Those before place o-index came to the node, and no limit was met.
 use Rattle.arrivals.specs.Meetings.{setting_of}
 use Rattle.detections.specs.Writing.{Beyond}
 use Rattle.emissions.specs.Emissions.{bytes_in, findings_in}
-use Rattle.emissions.specs.declared.Limit.TheVariants.{None}
 use Rattle.occurrences.specs.Packed.{Notes, Stand}
 use Rattle.occurrences.specs.declared.Occurrence.{Occurrence}
 use Rattle.operators.specs.Turns.{Turned, arrives, in_order}
 use Rattle.operators.specs.Views.{HoldsTurned, Takes}
 use Rattle.plans.specs.declared.Node.{Node}
 use Rattle.sequences.specs.Loops.{fold}
+use Rattle.std.specs.Prelude.{None}
+use Prim.Native.Nat.{ℕ}
 use lib.ListN.{length, take}
 use mathlib.Core.List.{List}
-use mathlib.Core.Path.{◌≡◌}
 use Rattle.operators.proofs.input_turn.Given as goal
 
-abbrev pub invariant-loop-i : goal.invariant-loop-i
-invariant-loop-i v =
-    (v.i ≤ v.n) × (length v.out ≡ length v.initial.out) × Beyond v.initial.out v.out (bytes_in v.initial.tally) (findings_in v.tally) (bytes_in v.tally) × (length v.lists ≡ length v.initial.lists)
+abbrev pub invariant-loop-o : goal.invariant-loop-o
+invariant-loop-o v =
+    Beyond v.initial.out v.out (bytes_in v.initial.tally) (findings_in v.tally) (bytes_in v.tally)
     × ((t : Notes v.ticks v.globals) (node : Node) (x : Turned) (l : List Occurrence) (event : ℕ) → Takes node v.turn → Stand t v.arrivals l
     → HoldsTurned t None v.turn.split v.initial.lists v.initial.tally v.initial.made v.initial.out x
     → HoldsTurned t None v.turn.split v.lists v.tally v.made v.out
-    (fold (arrives (setting_of (length v.initial.out) t.clocks v.loggers) node v.turn.place) (take v.i (in_order event v.turn.input 0 l)) x))
-
-abbrev pub decreases-loop-i : goal.decreases-loop-i
-decreases-loop-i l = l.n - l.i
+    (fold (arrives (setting_of (length v.initial.out) t.clocks v.loggers) node v.turn.place) (take v.o-index (in_order event v.turn.input 0 l)) x))

@@ -1,19 +1,18 @@
 -- Case by case.
+use denote.Enum.Declared.{tag_of}
+use mathlib.Core.Path.{◌≡◌, refl}
+use Prim.Native.Nat.{◌+◌}
+use Rattle.emissions.specs.declared.Limit.{Limit}
+use Rattle.emissions.specs.declared.Limit.TheVariants.{ListFull, NodeFull, OutputFull}
+use Rattle.emissions.specs.contracts.Limit as limit
 use Rattle.emissions.specs.Emissions.{number_of}
 use Rattle.emissions.proofs.Limit.number.Goals as goal
 
-pub returns-in-None : goal.returns-in-None
+numbered : (l : Limit) → tag_of limit.the_type l + 31 ≡ number_of l
 unfolding number_of
-returns-in-None c = cc
+numbered ListFull = refl
+numbered NodeFull = refl
+numbered OutputFull = refl
 
-pub returns-in-ListFull : goal.returns-in-ListFull
-unfolding number_of
-returns-in-ListFull c = cc
-
-pub returns-in-NodeFull : goal.returns-in-NodeFull
-unfolding number_of
-returns-in-NodeFull c = cc
-
-pub returns-in-OutputFull : goal.returns-in-OutputFull
-unfolding number_of
-returns-in-OutputFull c = cc
+pub returns : goal.returns
+returns c = numbered c.args.self
