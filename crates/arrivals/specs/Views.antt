@@ -1,8 +1,9 @@
 -- What the code's values stand for, beside what is lent: a waiting list, what the node made, the output.
+use Rattle.timestamps.specs.declared.Note.{Note}
 use Rattle.std.specs.Prelude.{Bool, List, None, ◌⊎◌, ◌≡◌, ℕ, ◌+◌, ◌<◌, length}
 use Rattle.timestamps.specs.Order.{Clocks}
 use Rattle.occurrences.specs.declared.Occurrence.{Occurrence}
-use Rattle.occurrences.specs.Packed.{Notes, Stands}
+use Rattle.occurrences.specs.Packed.{Notes, NotesOf, Stands}
 use Rattle.waiting_lists.specs.Lists.{Waits, list_of}
 use Rattle.emissions.specs.declared.Tally.{Tally}
 use Rattle.emissions.specs.Emissions.{Emits, Emitting}
@@ -21,11 +22,11 @@ unfoldable pub looked_for : Action → Clocks → (own other : List Occurrence) 
 looked_for action clocks own other o = removed_by action clocks other (candidates_of action clocks own other o) o
 
 -- that there are such notes and occurrences: of an arrival at a list, and beside two, where no limit is met yet
-abbrev pub Meets : (ticks globals : List ℕ) (list : List (List ℕ)) (tally : Tally) (made : List (List ℕ)) (out o : List ℕ) → Type 0
-Meets ticks globals list tally made out o =
-    (t : Notes ticks globals) × (l : List Occurrence) × (s : Emitting) × (x : Occurrence) × Waits t list l × Emits t None tally made out s × Stands t o x
+abbrev pub Meets : (notes : List Note) (list : List (List ℕ)) (tally : Tally) (made : List (List ℕ)) (out o : List ℕ) → Type 0
+Meets notes list tally made out o =
+    (t : NotesOf notes) × (l : List Occurrence) × (s : Emitting) × (x : Occurrence) × Waits t list l × Emits t None tally made out s × Stands t o x
 
-abbrev pub MeetsBoth : (ticks globals : List ℕ) (own other : List (List ℕ)) (tally : Tally) (made : List (List ℕ)) (out o : List ℕ) → Type 0
-MeetsBoth ticks globals own other tally made out o =
-    (t : Notes ticks globals) × (k : List Occurrence) × (l : List Occurrence) × (s : Emitting) × (x : Occurrence)
+abbrev pub MeetsBoth : (notes : List Note) (own other : List (List ℕ)) (tally : Tally) (made : List (List ℕ)) (out o : List ℕ) → Type 0
+MeetsBoth notes own other tally made out o =
+    (t : NotesOf notes) × (k : List Occurrence) × (l : List Occurrence) × (s : Emitting) × (x : Occurrence)
     × Waits t own k × Waits t other l × Emits t None tally made out s × Stands t o x

@@ -8,7 +8,7 @@ ghost use Rattle.sequences.specs.Marks.{first_mark, marked};
 ghost use Rattle.detections.specs.Writing.{Beyond};
 ghost use Rattle.occurrences.specs.declared.Occurrence.{Occurrence};
 ghost use Rattle.occurrences.specs.Combination.{combined_of};
-ghost use Rattle.occurrences.specs.Packed.{Notes, Stands};
+ghost use Rattle.occurrences.specs.Packed.{Notes, NotesOf, Stands};
 ghost use Rattle.waiting_lists.specs.Lists.{Beside, Known, Waits, list_of};
 ghost use Rattle.waiting_lists.specs.Marks.{marks_of};
 ghost use Rattle.waiting_lists.specs.Waiting.{appended_to};
@@ -24,6 +24,7 @@ use contexts::Choice;
 use detections::LoggerNumbers;
 use emissions::{Limit, Made, Tally};
 use occurrences::Packed;
+use timestamps::Note;
 
 // ---- what an arrival by an input does, by codes
 
@@ -54,13 +55,12 @@ fn emit_each(
     taken: u64,
     o: &Packed,
     place: u64,
-    ticks: &[u64],
-    globals: &[u64],
+    notes: &[Note],
     loggers: &LoggerNumbers,
     out: &mut [u8],
 ) -> Result<(), Limit>
-    requires { Meets ticks.now globals.now list.now tally.old made.old out.old o.now × InOutput tally.old out.old }
-    ensures emits { (t : Notes ticks.now globals.now) (l : List Occurrence) (s : Emitting) (x : Occurrence)
+    requires { Meets notes.now list.now tally.old made.old out.old o.now × InOutput tally.old out.old }
+    ensures emits { (t : NotesOf notes.now) (l : List Occurrence) (s : Emitting) (x : Occurrence)
         → Waits t list.now l → Emits t None tally.old made.old out.old s → Stands t o.now x
         → Emits t (result_err result) tally.new made.new out.new
         (emitted_all (length out.old) loggers.now place s (map (λ w. combined_of t.clocks w x) (marked l (marks_of taken)))) }
@@ -73,8 +73,8 @@ fn emit_each(
     let mut i = waiting_lists::first_marked(rest);
     while i < n {
         let at = waiting_lists::place_at(waiting, i);
-        let c = occurrences::combined(&list[at], o, ticks, globals);
-        emissions::emit_one(tally, made, place, &c, ticks, loggers, out)?;
+        let c = occurrences::combined(&list[at], o, notes);
+        emissions::emit_one(tally, made, place, &c, notes, loggers, out)?;
         // Without its lowest mark.
         rest = rest & (rest - 1);
         i = waiting_lists::first_marked(rest);
@@ -90,13 +90,12 @@ fn emit_together(
     taken: u64,
     o: &Packed,
     place: u64,
-    ticks: &[u64],
-    globals: &[u64],
+    notes: &[Note],
     loggers: &LoggerNumbers,
     out: &mut [u8],
 ) -> Result<(), Limit>
-    requires { Meets ticks.now globals.now list.now tally.old made.old out.old o.now × InOutput tally.old out.old }
-    ensures emits { (t : Notes ticks.now globals.now) (l : List Occurrence) (s : Emitting) (x : Occurrence)
+    requires { Meets notes.now list.now tally.old made.old out.old o.now × InOutput tally.old out.old }
+    ensures emits { (t : NotesOf notes.now) (l : List Occurrence) (s : Emitting) (x : Occurrence)
         → Waits t list.now l → Emits t None tally.old made.old out.old s → Stands t o.now x
         → Emits t (result_err result) tally.new made.new out.new
         (emitted_all (length out.old) loggers.now place s (made_of together t.clocks (marked l (marks_of taken)) x)) }
@@ -109,8 +108,8 @@ fn emit_together(
     if n <= first {
         return Ok(());
     }
-    let all = contexts::all_combined(list, taken, o, ticks, globals);
-    emissions::emit_one(tally, made, place, &all, ticks, loggers, out)
+    let all = contexts::all_combined(list, taken, o, notes);
+    emissions::emit_one(tally, made, place, &all, notes, loggers, out)
 }
 
 // What an arrival makes of those taken, by the context.
@@ -122,13 +121,12 @@ pub fn emit_made(
     o: &Packed,
     context: u64,
     place: u64,
-    ticks: &[u64],
-    globals: &[u64],
+    notes: &[Note],
     loggers: &LoggerNumbers,
     out: &mut [u8],
 ) -> Result<(), Limit>
-    requires { Meets ticks.now globals.now list.now tally.old made.old out.old o.now × InOutput tally.old out.old }
-    ensures emits { (t : Notes ticks.now globals.now) (l : List Occurrence) (s : Emitting) (x : Occurrence)
+    requires { Meets notes.now list.now tally.old made.old out.old o.now × InOutput tally.old out.old }
+    ensures emits { (t : NotesOf notes.now) (l : List Occurrence) (s : Emitting) (x : Occurrence)
         → Waits t list.now l → Emits t None tally.old made.old out.old s → Stands t o.now x
         → Emits t (result_err result) tally.new made.new out.new
         (emitted_all (length out.old) loggers.now place s (made_of (row_of context).finds t.clocks (marked l (marks_of taken)) x)) }
@@ -137,11 +135,11 @@ pub fn emit_made(
 {
     if contexts::makes_each(context) {
         emit_each(
-            tally, made, list, taken, o, place, ticks, globals, loggers, out,
+            tally, made, list, taken, o, place, notes, loggers, out,
         )
     } else {
         emit_together(
-            tally, made, list, taken, o, place, ticks, globals, loggers, out,
+            tally, made, list, taken, o, place, notes, loggers, out,
         )
     }
 }
@@ -189,13 +187,12 @@ pub fn emit_accumulated(
     middles: &[Packed],
     o: &Packed,
     place: u64,
-    ticks: &[u64],
-    globals: &[u64],
+    notes: &[Note],
     loggers: &LoggerNumbers,
     out: &mut [u8],
 ) -> Result<(), Limit>
-    requires { MeetsBoth ticks.now globals.now middles.now lefts.now tally.old made.old out.old o.now × InOutput tally.old out.old }
-    ensures emits { (t : Notes ticks.now globals.now) (k l : List Occurrence) (s : Emitting) (x : Occurrence)
+    requires { MeetsBoth notes.now middles.now lefts.now tally.old made.old out.old o.now × InOutput tally.old out.old }
+    ensures emits { (t : NotesOf notes.now) (k l : List Occurrence) (s : Emitting) (x : Occurrence)
         → Waits t middles.now k → Waits t lefts.now l
         → Emits t None tally.old made.old out.old s → Stands t o.now x
         → marks_of earlier ≡ seq_candidates t.clocks k x
@@ -211,8 +208,8 @@ pub fn emit_accumulated(
     let mut i = waiting_lists::first_marked(rest);
     while i < n {
         let group = next_group(context, rest);
-        let all = contexts::accumulated(lefts, group.lefts, middles, earlier, o, ticks, globals);
-        emissions::emit_one(tally, made, place, &all, ticks, loggers, out)?;
+        let all = contexts::accumulated(lefts, group.lefts, middles, earlier, o, notes);
+        emissions::emit_one(tally, made, place, &all, notes, loggers, out)?;
         rest = group.rest;
         i = waiting_lists::first_marked(rest);
     }
@@ -240,11 +237,10 @@ pub fn candidates_of(
     own: &[Packed],
     other: &[Packed],
     o: &Packed,
-    ticks: &[u64],
-    globals: &[u64],
+    notes: &[Note],
 ) -> u64
-    requires { Beside ticks.now globals.now own.now other.now o.now }
-    ensures { (t : Notes ticks.now globals.now) (k l : List Occurrence) (x : Occurrence)
+    requires { Beside notes.now own.now other.now o.now }
+    ensures { (t : NotesOf notes.now) (k l : List Occurrence) (x : Occurrence)
         → Waits t own.now k → Waits t other.now l → Stands t o.now x → Looks action
         → marks_of result ≡ looked_for (action_from action) t.clocks k l x }
 {
@@ -253,7 +249,7 @@ pub fn candidates_of(
         return contexts::all_waiting(waiting.len);
     }
     let blockers = blockers_of(action, own);
-    contexts::unblocked(other, own, blockers, o, ticks, globals)
+    contexts::unblocked(other, own, blockers, o, notes)
 }
 
 // What a context chooses of the candidates; nothing where there are none.
@@ -261,11 +257,10 @@ pub fn choice_of(
     context: u64,
     list: &[Packed],
     candidates: u64,
-    ticks: &[u64],
-    globals: &[u64],
+    notes: &[Note],
 ) -> Choice
-    requires { Known ticks.now globals.now list.now }
-    ensures { (t : Notes ticks.now globals.now) (l : List Occurrence) → Waits t list.now l
+    requires { Known notes.now list.now }
+    ensures { (t : NotesOf notes.now) (l : List Occurrence) → Waits t list.now l
         → (marks_of result.taken ≡ (chosen (row_of context) t.clocks l (marks_of candidates)).taken)
         × (marks_of result.removed ≡ (chosen (row_of context) t.clocks l (marks_of candidates)).removed) }
 {
@@ -275,7 +270,7 @@ pub fn choice_of(
             removed: 0,
         };
     }
-    contexts::choose(context, list, candidates, ticks, globals)
+    contexts::choose(context, list, candidates, notes)
 }
 
 // ---- waiting

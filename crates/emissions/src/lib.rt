@@ -1,6 +1,7 @@
 // What a node makes from one event: findings to the output and to later nodes, until a limit ends the work.
 #![tactic(auto)]
 
+ghost use Rattle.timestamps.specs.Notes.{ticks_of};
 ghost use Rattle.std.specs.Prelude.{List, None, ◌≡◌, ℕ, get_or, length};
 ghost use Rattle.std.specs.Result.{result_err};
 ghost use Rattle.detections.specs.Writing.{Beyond};
@@ -11,6 +12,7 @@ ghost use Rattle.emissions.specs.Emissions.{Emits, Emitting, InOutput, bytes_in,
 
 use detections::LoggerNumbers;
 use occurrences::Packed;
+use timestamps::Note;
 
 // What ends the work on the way, by document 01's numbers.
 #[derive(Clone, Copy, PartialEq, Eq)]
@@ -46,12 +48,12 @@ pub fn emit_one(
     made: &mut Made,
     place: u64,
     o: &Packed,
-    ticks: &[u64],
+    notes: &[Note],
     loggers: &LoggerNumbers,
     out: &mut [u8],
 ) -> Result<(), Limit>
-    requires { Inside 8 ticks.now (get_or o.now 2 0) × (get_or ticks.now 0 0 ≡ 0) × InOutput tally.old out.old }
-    ensures emits { (globals : List ℕ) (t : Notes ticks.now globals) (s : Emitting) (x : Occurrence)
+    requires { Inside 8 notes.now (get_or o.now 2 0) × (get_or (ticks_of notes.now) 0 0 ≡ 0) × InOutput tally.old out.old }
+    ensures emits { (globals : List ℕ) (t : Notes (ticks_of notes.now) globals) (s : Emitting) (x : Occurrence)
         → Emits t None tally.old made.old out.old s → Stands t o.now x
         → Emits t (result_err result) tally.new made.new out.new (emitted (length out.old) loggers.now place s x) }
     ensures beyond { Beyond out.old out.new (bytes_in tally.old)
@@ -62,10 +64,10 @@ pub fn emit_one(
         return Err(Limit::NodeFull);
     }
     let at = tally.bytes;
-    if !detections::fits(o, ticks, out.len() - at) {
+    if !detections::fits(o, notes, out.len() - at) {
         return Err(Limit::OutputFull);
     }
-    let next = detections::write(out, at, place, o, ticks, loggers);
+    let next = detections::write(out, at, place, o, notes, loggers);
     made[n] = *o;
     *tally = Tally {
         made: n + 1,

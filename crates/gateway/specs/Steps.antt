@@ -1,4 +1,6 @@
 -- What is known of a plan that was read into arrays, and the work under it. Readers of the promises need none of this.
+use Rattle.timestamps.specs.Notes.{globals_of, ticks_of}
+use Rattle.timestamps.specs.declared.Note.{Note}
 use Rattle.std.specs.Prelude.{List, map, ◌≡◌, ℕ, ◌≤◌, length, take, Ok}
 use Rattle.plans.specs.Layout.{Plan, plan_clocks}
 use Rattle.plans.specs.declared.PlanRead.{PlanRead}
@@ -24,7 +26,7 @@ WorkedUnder read loggers kinds nodes passage out r out' = Answers (plan_worked (
 
 -- the run over the events that the code keeps is the one under every plan whose logger numbers these are, whose nodes are the first n rows, and by whose clocks
 -- the events are noted
-abbrev pub RunsUnder : (numbers : List ℕ) (nodes : List (List ℕ)) (n count : ℕ) (kinds loggers ticks globals out : List ℕ) (r : Run) (out' : List ℕ) → Type 0
-RunsUnder numbers nodes n count kinds loggers ticks globals out r out' =
+abbrev pub RunsUnder : (numbers : List ℕ) (nodes : List (List ℕ)) (n count : ℕ) (kinds loggers : List ℕ) → List Note → (out : List ℕ) (r : Run) (out' : List ℕ) → Type 0
+RunsUnder numbers nodes n count kinds loggers notes out r out' =
     (p : Plan) → numbers ≡ numbers_by_place p.loggers → p.nodes ≡ map node_of (take n nodes)
-    → (let events = held_events count kinds loggers ticks in Noted (plan_clocks p) events count kinds loggers ticks globals → Ran p events out r out')
+    → (let events = held_events count kinds loggers (ticks_of notes) in Noted (plan_clocks p) events count kinds loggers (ticks_of notes) (globals_of notes) → Ran p events out r out')

@@ -16,6 +16,7 @@ use passages::Places;
 use plans::{Kinds, Loggers, Nodes};
 use slots::{KindPlaces, Seats, SlotTakers};
 use working::Answer;
+use timestamps::Note;
 
 // A file is turned back: no finding, no byte.
 fn turned_back(number: u64, place: usize) -> Answer
@@ -71,8 +72,7 @@ struct Given<'a> {
     count: usize,
     kinds: &'a Places,
     loggers: &'a Places,
-    ticks: &'a [u64],
-    globals: &'a [u64],
+    notes: &'a [Note],
 }
 
 // The run over seated nodes, where so many places for lists and for what is made are enough: only what is lent is cleared first.
@@ -82,9 +82,9 @@ fn run_in_places<const LISTS: usize, const MADE: usize>(
 ) -> detector::Run
     requires few { (LISTS ≤ 544) × (MADE ≤ 136) }
     requires ready { SomeReady given.now.count given.now.kinds.now given.now.takers.now given.now.seats.now LISTS MADE }
-    requires noticed { Noticed given.now.count given.now.kinds.now given.now.loggers.now given.now.ticks.now given.now.globals.now }
+    requires noticed { Noticed given.now.count given.now.kinds.now given.now.loggers.now given.now.notes.now }
     ensures { Runs given.now.numbers.now given.now.takers.now given.now.seats.now LISTS MADE given.now.count
-        given.now.kinds.now given.now.loggers.now given.now.ticks.now given.now.globals.now output.old result output.new }
+        given.now.kinds.now given.now.loggers.now given.now.notes.now output.old result output.new }
 {
     let mut lists = [[0u64; 3]; LISTS];
     let mut made = [[0u64; 3]; MADE];
@@ -95,8 +95,7 @@ fn run_in_places<const LISTS: usize, const MADE: usize>(
         given.count,
         given.kinds,
         given.loggers,
-        given.ticks,
-        given.globals,
+        given.notes,
         &mut lists,
         &mut made,
         output,
@@ -115,9 +114,9 @@ fn fits(l: usize, lists: usize, m: usize, made: usize) -> bool
 fn run_by_need(given: &Given, l: usize, m: usize, output: &mut [u8]) -> detector::Run
     requires most { (l ≤ 544) × (m ≤ 136) }
     requires ready { SomeReady given.now.count given.now.kinds.now given.now.takers.now given.now.seats.now l m }
-    requires noticed { Noticed given.now.count given.now.kinds.now given.now.loggers.now given.now.ticks.now given.now.globals.now }
+    requires noticed { Noticed given.now.count given.now.kinds.now given.now.loggers.now given.now.notes.now }
     ensures { Runs given.now.numbers.now given.now.takers.now given.now.seats.now l m given.now.count
-        given.now.kinds.now given.now.loggers.now given.now.ticks.now given.now.globals.now output.old result output.new }
+        given.now.kinds.now given.now.loggers.now given.now.notes.now output.old result output.new }
 {
     if fits(l, 10, m, 9) {
         return run_in_places::<10, 9>(given, output);
@@ -146,13 +145,12 @@ fn run_in_rows(
     count: usize,
     kind_places: &Places,
     logger_places: &Places,
-    ticks: &[u64],
-    globals: &[u64],
+    notes: &[Note],
     output: &mut [u8],
 ) -> detector::Run
-    requires { (n ≤ 16) × Noticed count kind_places.now logger_places.now ticks.now globals.now × Slotted n nodes.now }
+    requires { (n ≤ 16) × Noticed count kind_places.now logger_places.now notes.now × Slotted n nodes.now }
     ensures { RunsUnder numbers.now nodes.now n count kind_places.now logger_places.now
-        ticks.now globals.now output.old result output.new }
+        notes.now output.old result output.new }
 {
     let mut places = [0u8; 34];
     places_for(kind_places, count, &mut places);
@@ -169,8 +167,7 @@ fn run_in_rows(
         count,
         kinds: kind_places,
         loggers: logger_places,
-        ticks,
-        globals,
+        notes,
     };
     run_by_need(&given, l, m, output)
 }
@@ -183,10 +180,9 @@ fn work_under(
     nodes: &Nodes,
     passage: &[u8],
     output: &mut [u8],
-    ticks: &mut [u64],
-    globals: &mut [u64],
+    notes: &mut [Note],
 ) -> Answer
-    requires { PlanHeld read loggers.now kinds.now nodes.now × Room passage.now ticks.old × Room passage.now globals.old }
+    requires { PlanHeld read loggers.now kinds.now nodes.now × Room passage.now notes.old }
     ensures { WorkedUnder read loggers.now kinds.now nodes.now
         passage.now output.old result output.new }
 {
@@ -203,8 +199,7 @@ fn work_under(
         passage,
         &mut kind_places,
         &mut logger_places,
-        ticks,
-        globals,
+        notes,
     );
     let count = match check {
         Ok(count) => count,
@@ -218,8 +213,7 @@ fn work_under(
         count,
         &kind_places,
         &logger_places,
-        ticks,
-        globals,
+        notes,
         output,
     );
     ended(run)
@@ -240,8 +234,7 @@ fn work_with<const EVENTS: usize>(
     ensures { WorkedUnder read loggers.now kinds.now nodes.now
         passage.now output.old result output.new }
 {
-    let mut ticks = [0u64; EVENTS];
-    let mut globals = [0u64; EVENTS];
+    let mut notes = [Note { tick: 0, global: 0 }; EVENTS];
     work_under(
         read,
         loggers,
@@ -249,8 +242,7 @@ fn work_with<const EVENTS: usize>(
         nodes,
         passage,
         output,
-        &mut ticks,
-        &mut globals,
+        &mut notes,
     )
 }
 

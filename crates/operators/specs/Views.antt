@@ -1,9 +1,10 @@
 -- What the code's values stand for, beside what is lent: a node's two waiting lists, what it made, the output.
+use Rattle.timestamps.specs.declared.Note.{Note}
 use Rattle.std.specs.Prelude.{Bool, true, not, List, Option, None, ◌≡◌, ℕ, ◌≤◌, eqb, drop, length, take}
 use Rattle.sequences.specs.Choice.{pick}
 use Rattle.timestamps.specs.Order.{Clocks}
 use Rattle.occurrences.specs.declared.Occurrence.{Occurrence}
-use Rattle.occurrences.specs.Packed.{Notes, Stand, Stands}
+use Rattle.occurrences.specs.Packed.{Notes, NotesOf, Stand, Stands}
 use Rattle.waiting_lists.specs.Lists.{Waits}
 use Rattle.waiting_lists.specs.Marks.{marks_of}
 use Rattle.contexts.specs.declared.Choice.{Choice}
@@ -63,11 +64,11 @@ abbrev pub Spares : Turn → (lists : List (List ℕ)) → ℕ → Type 0
 Spares turn lists n = may_wait (action_from turn.action) ≡ true → Spare (own_part turn.input turn.split lists) n
 
 -- ---- that there are such notes and occurrences: of one arrival, and of those of an input of a node, where no limit is met yet
-abbrev pub Offered : (turn : Turn) (ticks globals : List ℕ) (lists : List (List ℕ)) (tally : Tally) (made : List (List ℕ)) (out o : List ℕ) → Type 0
-Offered turn ticks globals lists tally made out o =
-    (t : Notes ticks globals) × (x : Turned) × (y : Occurrence) × HoldsTurned t None turn.split lists tally made out x × Stands t o y
+abbrev pub Offered : (turn : Turn) (notes : List Note) (lists : List (List ℕ)) (tally : Tally) (made : List (List ℕ)) (out o : List ℕ) → Type 0
+Offered turn notes lists tally made out o =
+    (t : NotesOf notes) × (x : Turned) × (y : Occurrence) × HoldsTurned t None turn.split lists tally made out x × Stands t o y
 
-abbrev pub AllOffered : (turn : Turn) (ticks globals : List ℕ) (lists : List (List ℕ)) (tally : Tally) (made : List (List ℕ)) (out : List ℕ) (arrivals : List (List ℕ)) → Type 0
-AllOffered turn ticks globals lists tally made out arrivals =
-    (t : Notes ticks globals) × (node : Node) × (x : Turned) × (l : List Occurrence)
+abbrev pub AllOffered : (turn : Turn) (notes : List Note) (lists : List (List ℕ)) (tally : Tally) (made : List (List ℕ)) (out : List ℕ) (arrivals : List (List ℕ)) → Type 0
+AllOffered turn notes lists tally made out arrivals =
+    (t : NotesOf notes) × (node : Node) × (x : Turned) × (l : List Occurrence)
     × Takes node turn × HoldsTurned t None turn.split lists tally made out x × Stand t arrivals l

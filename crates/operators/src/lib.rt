@@ -6,7 +6,7 @@ ghost use Rattle.std.specs.Prelude.{List, None, ◌≡◌, ℕ, ◌≤◌, ◌<�
 ghost use Rattle.std.specs.Result.{result_err};
 ghost use Rattle.detections.specs.Writing.{Beyond};
 ghost use Rattle.occurrences.specs.declared.Occurrence.{Occurrence};
-ghost use Rattle.occurrences.specs.Packed.{Notes, Stand, Stands};
+ghost use Rattle.occurrences.specs.Packed.{NotesOf, Stand, Stands};
 ghost use Rattle.plans.specs.declared.Node.{Node};
 ghost use Rattle.emissions.specs.Emissions.{InOutput, bytes_in, findings_in};
 ghost use Rattle.arrivals.specs.Meetings.{Arrival, action_from, setting_of};
@@ -20,6 +20,7 @@ use contexts::Choice;
 use detections::LoggerNumbers;
 use emissions::{Limit, Made, Tally};
 use occurrences::Packed;
+use timestamps::Note;
 
 // ---- the table
 
@@ -91,14 +92,13 @@ fn accumulate(
     tally: &mut Tally,
     made: &mut Made,
     o: &Packed,
-    ticks: &[u64],
-    globals: &[u64],
+    notes: &[Note],
     loggers: &LoggerNumbers,
     out: &mut [u8],
 ) -> Result<(), Limit>
-    requires { Offered turn ticks.now globals.now lists.old tally.old made.old out.old o.now × InOutput tally.old out.old
+    requires { Offered turn notes.now lists.old tally.old made.old out.old o.now × InOutput tally.old out.old
         × Halves turn (length lists.old) own other }
-    ensures acts { (t : Notes ticks.now globals.now) (node : Node) (x : Turned) (a : Arrival)
+    ensures acts { (t : NotesOf notes.now) (node : Node) (x : Turned) (a : Arrival)
         → turn.action ≡ 5 → Takes node turn → a.input ≡ turn.input → Stands t o.now a.occurrence
         → HoldsTurned t None turn.split lists.old tally.old made.old out.old x
         → Chose turn t.clocks x a.occurrence candidates choice
@@ -107,7 +107,7 @@ fn accumulate(
     ensures beyond { Beyond out.old out.new (bytes_in tally.old)
         (findings_in tally.new) (bytes_in tally.new) }
 {
-    let earlier = contexts::before_arrival(&lists[own.from..own.to], o, ticks, globals);
+    let earlier = contexts::before_arrival(&lists[own.from..own.to], o, notes);
     arrivals::emit_accumulated(
         tally,
         made,
@@ -118,8 +118,7 @@ fn accumulate(
         &lists[own.from..own.to],
         o,
         turn.place,
-        ticks,
-        globals,
+        notes,
         loggers,
         out,
     )?;
@@ -139,14 +138,13 @@ fn by_row(
     tally: &mut Tally,
     made: &mut Made,
     o: &Packed,
-    ticks: &[u64],
-    globals: &[u64],
+    notes: &[Note],
     loggers: &LoggerNumbers,
     out: &mut [u8],
 ) -> Result<(), Limit>
-    requires { Offered turn ticks.now globals.now lists.old tally.old made.old out.old o.now × InOutput tally.old out.old
+    requires { Offered turn notes.now lists.old tally.old made.old out.old o.now × InOutput tally.old out.old
         × Spares turn lists.old 1 × Halves turn (length lists.old) own other }
-    ensures acts { (t : Notes ticks.now globals.now) (node : Node) (x : Turned) (a : Arrival)
+    ensures acts { (t : NotesOf notes.now) (node : Node) (x : Turned) (a : Arrival)
         → Looks turn.action → (turn.action ≡ 4 → ⊥) → (turn.action ≡ 5 → ⊥)
         → Takes node turn → a.input ≡ turn.input → Stands t o.now a.occurrence
         → HoldsTurned t None turn.split lists.old tally.old made.old out.old x
@@ -164,8 +162,7 @@ fn by_row(
         o,
         turn.context,
         turn.place,
-        ticks,
-        globals,
+        notes,
         loggers,
         out,
     )?;
@@ -187,14 +184,13 @@ fn carry_out(
     tally: &mut Tally,
     made: &mut Made,
     o: &Packed,
-    ticks: &[u64],
-    globals: &[u64],
+    notes: &[Note],
     loggers: &LoggerNumbers,
     out: &mut [u8],
 ) -> Result<(), Limit>
-    requires { Offered turn ticks.now globals.now lists.old tally.old made.old out.old o.now × InOutput tally.old out.old
+    requires { Offered turn notes.now lists.old tally.old made.old out.old o.now × InOutput tally.old out.old
         × Spares turn lists.old 1 × Halves turn (length lists.old) own other }
-    ensures acts { (t : Notes ticks.now globals.now) (node : Node) (x : Turned) (a : Arrival)
+    ensures acts { (t : NotesOf notes.now) (node : Node) (x : Turned) (a : Arrival)
         → Looks turn.action → (turn.action ≡ 4 → ⊥)
         → Takes node turn → a.input ≡ turn.input → Stands t o.now a.occurrence
         → HoldsTurned t None turn.split lists.old tally.old made.old out.old x
@@ -206,12 +202,12 @@ fn carry_out(
 {
     if turn.action == ACCUMULATE {
         return accumulate(
-            turn, candidates, choice, own, other, lists, tally, made, o, ticks, globals, loggers,
+            turn, candidates, choice, own, other, lists, tally, made, o, notes, loggers,
             out,
         );
     }
     by_row(
-        turn, candidates, choice, own, other, lists, tally, made, o, ticks, globals, loggers, out,
+        turn, candidates, choice, own, other, lists, tally, made, o, notes, loggers, out,
     )
 }
 
@@ -225,14 +221,13 @@ fn meet(
     tally: &mut Tally,
     made: &mut Made,
     o: &Packed,
-    ticks: &[u64],
-    globals: &[u64],
+    notes: &[Note],
     loggers: &LoggerNumbers,
     out: &mut [u8],
 ) -> Result<(), Limit>
-    requires { Offered turn ticks.now globals.now lists.old tally.old made.old out.old o.now × InOutput tally.old out.old
+    requires { Offered turn notes.now lists.old tally.old made.old out.old o.now × InOutput tally.old out.old
         × Spares turn lists.old 1 × Halves turn (length lists.old) own other }
-    ensures acts { (t : Notes ticks.now globals.now) (node : Node) (x : Turned) (a : Arrival)
+    ensures acts { (t : NotesOf notes.now) (node : Node) (x : Turned) (a : Arrival)
         → Looks turn.action → Takes node turn → a.input ≡ turn.input → Stands t o.now a.occurrence
         → HoldsTurned t None turn.split lists.old tally.old made.old out.old x
         → HoldsTurned t (result_err result) turn.split lists.new tally.new made.new out.new
@@ -246,16 +241,15 @@ fn meet(
         &lists[own.from..own.to],
         those,
         o,
-        ticks,
-        globals,
+        notes,
     );
     if turn.action == DELETE {
         waiting_lists::remove_from(&mut lists[other.from..other.to], candidates);
         return Ok(());
     }
-    let choice = arrivals::choice_of(turn.context, those, candidates, ticks, globals);
+    let choice = arrivals::choice_of(turn.context, those, candidates, notes);
     carry_out(
-        turn, candidates, choice, own, other, lists, tally, made, o, ticks, globals, loggers, out,
+        turn, candidates, choice, own, other, lists, tally, made, o, notes, loggers, out,
     )
 }
 
@@ -266,14 +260,13 @@ fn act(
     tally: &mut Tally,
     made: &mut Made,
     o: &Packed,
-    ticks: &[u64],
-    globals: &[u64],
+    notes: &[Note],
     loggers: &LoggerNumbers,
     out: &mut [u8],
 ) -> Result<(), Limit>
-    requires { Offered turn ticks.now globals.now lists.old tally.old made.old out.old o.now × InOutput tally.old out.old
+    requires { Offered turn notes.now lists.old tally.old made.old out.old o.now × InOutput tally.old out.old
         × Spares turn lists.old 1 }
-    ensures acts { (t : Notes ticks.now globals.now) (node : Node) (x : Turned) (a : Arrival)
+    ensures acts { (t : NotesOf notes.now) (node : Node) (x : Turned) (a : Arrival)
         → Takes node turn → a.input ≡ turn.input → Stands t o.now a.occurrence
         → HoldsTurned t None turn.split lists.old tally.old made.old out.old x
         → HoldsTurned t (result_err result) turn.split lists.new tally.new made.new out.new
@@ -282,7 +275,7 @@ fn act(
         (findings_in tally.new) (bytes_in tally.new) }
 {
     if turn.action == PASS {
-        return emissions::emit_one(tally, made, turn.place, o, ticks, loggers, out);
+        return emissions::emit_one(tally, made, turn.place, o, notes, loggers, out);
     }
     let end = lists.len();
     let is_left = turn.input == 0;
@@ -295,7 +288,7 @@ fn act(
     }
     let other = part_of(!is_left, turn.split, end);
     meet(
-        turn, own, other, lists, tally, made, o, ticks, globals, loggers, out,
+        turn, own, other, lists, tally, made, o, notes, loggers, out,
     )
 }
 
@@ -306,14 +299,13 @@ pub fn input_turn(
     tally: &mut Tally,
     made: &mut Made,
     arrivals: &[Packed],
-    ticks: &[u64],
-    globals: &[u64],
+    notes: &[Note],
     loggers: &LoggerNumbers,
     out: &mut [u8],
 ) -> Result<(), Limit>
-    requires { AllOffered turn ticks.now globals.now lists.old tally.old made.old out.old arrivals.now × InOutput tally.old out.old
+    requires { AllOffered turn notes.now lists.old tally.old made.old out.old arrivals.now × InOutput tally.old out.old
         × Spares turn lists.old (length arrivals.now) }
-    ensures turns { (t : Notes ticks.now globals.now) (node : Node) (x : Turned) (l : List Occurrence) (event : ℕ)
+    ensures turns { (t : NotesOf notes.now) (node : Node) (x : Turned) (l : List Occurrence) (event : ℕ)
         → Takes node turn → Stand t arrivals.now l
         → HoldsTurned t None turn.split lists.old tally.old made.old out.old x
         → HoldsTurned t (result_err result) turn.split lists.new tally.new made.new out.new
@@ -322,7 +314,7 @@ pub fn input_turn(
         (findings_in tally.new) (bytes_in tally.new) }
 {
     for o in arrivals {
-        act(turn, lists, tally, made, o, ticks, globals, loggers, out)?;
+        act(turn, lists, tally, made, o, notes, loggers, out)?;
     }
     Ok(())
 }

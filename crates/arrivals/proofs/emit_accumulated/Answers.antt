@@ -1,4 +1,5 @@
 -- What is left to make, from the state so far, is the whole; i is the first mark left.
+use Rattle.timestamps.specs.Notes.{globals_of}
 use Prim.Native.Nat.{◌≤◌}
 use Rattle.arrivals.proofs.Each.{emits_stopped}
 use Rattle.arrivals.proofs.Groups.{group_end, group_turn}
@@ -58,7 +59,7 @@ returns-in_err-emit_one c =
           let read = c.list_of-waiting in
           let next = c.next_group-group.ensures.0 l (omega (arith, c.loop-i.invariant.0, c.loop-i-test.true, read_length t a.lefts.now l h read.result read.ensures)) in
           let st = c.accumulated-all.ensures.stands t l k x h g q early next.1 in
-          let then = c.in_err-emit_one.ensures.emits a.globals.now t r.so_far (accumulation_of t.clocks (marked l (marks_of group.lefts)) k x) r.emits st in
+          let then = c.in_err-emit_one.ensures.emits (globals_of a.notes.now) t r.so_far (accumulation_of t.clocks (marked l (marks_of group.lefts)) k x) r.emits st in
           let finds = (row_of a.context).finds in
           rw (p.1, p.2)
           (emits_stopped t (length a.out.now) a.loggers.now a.place then refl (map (λ (lefts : List Occurrence). accumulation_of t.clocks lefts k x) (groups_of finds (marked l (marks_of group.rest))))
@@ -81,7 +82,7 @@ loop-i-preserved c = let a = c.args in let group = c.next_group-group.result in 
       let st = c.accumulated-all.ensures.stands t l k x h g p early next.1 in
       record {
         so_far = emitted (length c.loop-i.out) a.loggers.now a.place r.so_far (accumulation_of t.clocks (marked l (marks_of group.lefts)) k x);
-        emits = c.in_ok-emit_one.ensures.emits a.globals.now t r.so_far _ r.emits st;
+        emits = c.in_ok-emit_one.ensures.emits (globals_of a.notes.now) t r.so_far _ r.emits st;
         same = group_turn _ (row_of a.context).finds t.clocks k x l (marks_of c.loop-i.rest) (marks_of group.lefts) (marks_of group.rest) next.0 r.so_far _ (rw c.loop-i.invariant.1) ∙ r.same;
       },
 )

@@ -6,7 +6,7 @@ use Rattle.contexts.specs.Table.{row_of}
 use Rattle.detections.specs.Writing.{Beyond}
 use Rattle.std.specs.Prelude.{None}
 use Rattle.emissions.specs.Emissions.{Emits, Emitting, bytes_in, emitted, emitted_all, findings_in}
-use Rattle.occurrences.specs.Packed.{Notes, Stands}
+use Rattle.occurrences.specs.Packed.{Notes, NotesOf, Stands}
 use Rattle.occurrences.specs.declared.Occurrence.{Occurrence}
 use Rattle.sequences.specs.Loops.{fold}
 use Rattle.sequences.specs.Marks.{first_mark, marked}
@@ -20,7 +20,7 @@ use Rattle.arrivals.proofs.emit_accumulated.Given as goal
 abbrev pub invariant-loop-i : goal.invariant-loop-i
 invariant-loop-i v =
     (v.i ≡ first_mark (marks_of v.rest)) × (length v.out ≡ length v.initial.out) × Beyond v.initial.out v.out (bytes_in v.initial.tally) (findings_in v.tally) (bytes_in v.tally)
-    × ((t : Notes v.ticks v.globals) (k l : List Occurrence) (s : Emitting) (x : Occurrence) → Waits t v.middles k → Waits t v.lefts l → Emits t None v.initial.tally v.initial.made v.initial.out s → Stands t v.o x
+    × ((t : NotesOf v.notes) (k l : List Occurrence) (s : Emitting) (x : Occurrence) → Waits t v.middles k → Waits t v.lefts l → Emits t None v.initial.tally v.initial.made v.initial.out s → Stands t v.o x
     → marks_of v.earlier ≡ seq_candidates t.clocks k x
     → Left t v.tally v.made v.out
     (fold (emitted (length v.initial.out) v.loggers v.place) (map (λ g. accumulation_of t.clocks g k x) (groups_of (row_of v.context).finds (marked l (marks_of v.rest)))))

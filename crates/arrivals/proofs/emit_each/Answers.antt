@@ -8,6 +8,7 @@ use Rattle.occurrences.proofs.Packed.{stands-within}
 use Rattle.occurrences.specs.Combination.{combined_of}
 use Rattle.occurrences.specs.Occurrences.{no_occurrence}
 use Rattle.occurrences.specs.Packed.{Stands}
+use Rattle.timestamps.specs.Notes.{globals_of}
 use Rattle.sequences.specs.Marks.{first_mark, marked}
 use Rattle.waiting_lists.proofs.Marks.{first_some, length_marks, marks_rest}
 use Rattle.waiting_lists.proofs.Waits.{read_at, read-bytes, read-few, read_length, read-place, read_small}
@@ -48,13 +49,13 @@ bounds-list-at c =
 pub combined-c-requires : goal.combined-c-requires
 combined-c-requires c =
     let ((t, l, s, x, h, m, p), fits) = c.requires in
-    (read-bytes t c.args.list.now l h c.list_of-waiting.result c.list_of-waiting.ensures _ _ c.place_at-at.ensures c.loop-i-test.true, stands-within t _ x p)
+    (read-bytes _ t c.args.list.now l h c.list_of-waiting.result c.list_of-waiting.ensures _ _ c.place_at-at.ensures c.loop-i-test.true, stands-within _ t _ x p)
 
 pub emit_one-requires : goal.emit_one-requires
 emit_one-requires c =
     let ((t, l, s, x, h, m, p), fits) = c.requires in
     let st = c.combined-c.ensures t (get_or l c.loop-i.i no_occurrence) x (read_at t c.args.list.now l h c.list_of-waiting.result c.list_of-waiting.ensures _ _ c.place_at-at.ensures c.loop-i-test.true) p in
-    ((λ k b. (stands-within t _ _ st k b).0), t.no_tick, (c.loop-i.invariant.2.within, c.loop-i.invariant.2.few))
+    ((λ k b. (stands-within _ t _ _ st k b).0), t.no_tick, (c.loop-i.invariant.2.within, c.loop-i.invariant.2.few))
 
 pub returns-in_err-emit_one : goal.returns-in_err-emit_one
 returns-in_err-emit_one c =
@@ -69,7 +70,7 @@ returns-in_err-emit_one c =
           let in-marks : first_mark (marks_of c.loop-i.rest) < length (marks_of c.loop-i.rest) = omega (arith, length_marks c.loop-i.rest, few, first, c.loop-i-test.true) in
           let in_l : first_mark (marks_of c.loop-i.rest) < length l = omega (arith, first, c.loop-i-test.true, read_length t a.list.now l h read.result read.ensures) in
           let st = c.combined-c.ensures t (get_or l c.loop-i.i no_occurrence) x (read_at t a.list.now l h read.result read.ensures _ _ c.place_at-at.ensures c.loop-i-test.true) q in
-          let then = c.in_err-emit_one.ensures.emits a.globals.now t r.so_far (combined_of t.clocks (get_or l c.loop-i.i no_occurrence) x) r.emits st in
+          let then = c.in_err-emit_one.ensures.emits (globals_of a.notes.now) t r.so_far (combined_of t.clocks (get_or l c.loop-i.i no_occurrence) x) r.emits st in
           rw (p.1, p.2)
           (emits_stopped t (length a.out.now) a.loggers.now a.place then refl (map (λ w. combined_of t.clocks w x) (marked l (set (marks_of c.loop-i.rest) (first_mark (marks_of c.loop-i.rest)) false)))
           (each_turn _ (λ w. combined_of t.clocks w x) l (marks_of c.loop-i.rest) _ no_occurrence in_l in-marks refl r.so_far _ (rw (first, c.loop-i.invariant.1)) ∙ r.same));
@@ -103,7 +104,7 @@ loop-i-preserved c = let a = c.args in (
       let st = c.combined-c.ensures t (get_or l c.loop-i.i no_occurrence) x (read_at t a.list.now l h read.result read.ensures _ _ c.place_at-at.ensures c.loop-i-test.true) p in
       record {
         so_far = emitted (length c.loop-i.out) a.loggers.now a.place r.so_far (combined_of t.clocks (get_or l c.loop-i.i no_occurrence) x);
-        emits = c.in_ok-emit_one.ensures.emits a.globals.now t r.so_far _ r.emits st;
+        emits = c.in_ok-emit_one.ensures.emits (globals_of a.notes.now) t r.so_far _ r.emits st;
         same = each_turn _ (λ w. combined_of t.clocks w x) l (marks_of c.loop-i.rest) _ no_occurrence in_l in-marks (marks_rest c.loop-i.rest) r.so_far _ (rw (first, c.loop-i.invariant.1)) ∙ r.same;
       },
 )

@@ -37,7 +37,7 @@ emit_one-requires c =
     let all = c in
     let (one, fits) = all.requires in
     let (t, l, s, x, h, m, p) = one in
-    ((λ k b. (stands-within t _ _ (all.all_combined-all.ensures t l x h p) k b).0), t.no_tick, fits)
+    ((λ k b. (stands-within _ t _ _ (all.all_combined-all.ensures t l x h p) k b).0), t.no_tick, fits)
 
 pub returns : goal.returns
 returns c =

@@ -7,4 +7,4 @@ use Rattle.contexts_main.proofs.write_each.Goals as goal
 pub combined-c-requires : goal.combined-c-requires
 combined-c-requires g c =
     let (t, l, x, h, p) = c.requires in
-    (read-bytes t c.args.list.now l h c.list_of-waiting.result c.list_of-waiting.ensures _ _ c.place_at-place.ensures (search rules), stands-within t _ x p)
+    (read-bytes _ t c.args.list.now l h c.list_of-waiting.result c.list_of-waiting.ensures _ _ c.place_at-place.ensures (search rules), stands-within _ t _ x p)

@@ -9,6 +9,7 @@ use Rattle.detections.specs.Writing.{Wrote}
 use Rattle.detections.proofs.Sizes.{beyond_finding}
 use Rattle.detections.proofs.Writing.{beyond_none}
 use Rattle.occurrences.specs.Packed.{occurrence_of}
+use Rattle.timestamps.specs.Notes.{ticks_of}
 use Rattle.emissions.specs.Emissions.{bytes_in, made_in}
 use Rattle.emissions.proofs.Emitting.{emits_ninth, emits_no_room, emits_go, has_room, no_room}
 use borrow.Author.Rules.{rules}
@@ -44,8 +45,8 @@ returns c =
     let eight : length a.made.now ≡ 8 = search rules in
     let below : made_in a.tally.now < 8 = omega (arith, eight, c.if-n-ge8.false) in
     let size = has_room _ _ _ c.requires.2.0 (c.fits.ensures a.loggers.now a.place) (ap not c.if-not-fits.false) in
-    let w : Wrote a.out.now (bytes_in a.tally.now) (written_bytes a.ticks.now a.loggers.now a.place a.o.now) c.write-next.result c.write-next.new.out = c.write-next.ensures in
-    let found = occurrence_of a.ticks.now a.o.now in
+    let w : Wrote a.out.now (bytes_in a.tally.now) (written_bytes (ticks_of a.notes.now) a.loggers.now a.place a.o.now) c.write-next.result c.write-next.new.out = c.write-next.ensures in
+    let found = occurrence_of (ticks_of a.notes.now) a.o.now in
     record {
       emits = λ globals t s x h o. emits_go t _ _ h o eight below c.requires.2.0 size w;
       beyond = beyond_finding (finding_of a.loggers.now a.place found.latest found.events) size c.requires.2.1 w;

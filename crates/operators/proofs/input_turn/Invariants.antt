@@ -2,7 +2,7 @@
 use Rattle.arrivals.specs.Meetings.{setting_of}
 use Rattle.detections.specs.Writing.{Beyond}
 use Rattle.emissions.specs.Emissions.{bytes_in, findings_in}
-use Rattle.occurrences.specs.Packed.{Notes, Stand}
+use Rattle.occurrences.specs.Packed.{Notes, NotesOf, Stand}
 use Rattle.occurrences.specs.declared.Occurrence.{Occurrence}
 use Rattle.operators.specs.Turns.{Turned, arrives, in_order}
 use Rattle.operators.specs.Views.{HoldsTurned, Takes}
@@ -17,7 +17,7 @@ use Rattle.operators.proofs.input_turn.Given as goal
 abbrev pub invariant-loop-o : goal.invariant-loop-o
 invariant-loop-o v =
     Beyond v.initial.out v.out (bytes_in v.initial.tally) (findings_in v.tally) (bytes_in v.tally)
-    × ((t : Notes v.ticks v.globals) (node : Node) (x : Turned) (l : List Occurrence) (event : ℕ) → Takes node v.turn → Stand t v.arrivals l
+    × ((t : NotesOf v.notes) (node : Node) (x : Turned) (l : List Occurrence) (event : ℕ) → Takes node v.turn → Stand t v.arrivals l
     → HoldsTurned t None v.turn.split v.initial.lists v.initial.tally v.initial.made v.initial.out x
     → HoldsTurned t None v.turn.split v.lists v.tally v.made v.out
     (fold (arrives (setting_of (length v.initial.out) t.clocks v.loggers) node v.turn.place) (take v.o-index (in_order event v.turn.input 0 l)) x))
