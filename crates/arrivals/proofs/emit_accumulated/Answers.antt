@@ -46,7 +46,7 @@ accumulated-all-requires c =
 pub emit_one-requires : goal.emit_one-requires
 emit_one-requires c =
     let ((t, k, l, s, x, g, h, m, p), fits) = c.requires in
-    ((λ j b. (c.accumulated-all.ensures.within j b).0), t.no_tick, (c.loop-i.invariant.2.within, c.loop-i.invariant.2.few))
+    (c.accumulated-all.ensures.within, t.no_tick, (c.loop-i.invariant.2.within, c.loop-i.invariant.2.few))
 
 pub returns-in_err-emit_one : goal.returns-in_err-emit_one
 returns-in_err-emit_one c =

@@ -55,7 +55,7 @@ pub emit_one-requires : goal.emit_one-requires
 emit_one-requires c =
     let ((t, l, s, x, h, m, p), fits) = c.requires in
     let st = c.combined-c.ensures t (get_or l c.loop-i.i no_occurrence) x (read_at t c.args.list.now l h c.list_of-waiting.result c.list_of-waiting.ensures _ _ c.place_at-at.ensures c.loop-i-test.true) p in
-    ((λ k b. (stands-within _ t _ _ st k b).0), t.no_tick, (c.loop-i.invariant.2.within, c.loop-i.invariant.2.few))
+    (stands-within _ t _ _ st, t.no_tick, (c.loop-i.invariant.2.within, c.loop-i.invariant.2.few))
 
 pub returns-in_err-emit_one : goal.returns-in_err-emit_one
 returns-in_err-emit_one c =

@@ -7,6 +7,7 @@ use Rattle.occurrences.proofs.Packed.{stands-within}
 use Rattle.occurrences.specs.Combination.{combined_of}
 use Rattle.sequences.specs.Loops.{fold}
 use Rattle.sequences.specs.Marks.{marked}
+use Rattle.timestamps.specs.Notes.{globals_of}
 use Rattle.waiting_lists.proofs.Marks.{length_marks}
 use Rattle.waiting_lists.proofs.Waits.{read-few, read_length}
 use Rattle.waiting_lists.specs.Marks.{marks_of}
@@ -37,7 +38,7 @@ emit_one-requires c =
     let all = c in
     let (one, fits) = all.requires in
     let (t, l, s, x, h, m, p) = one in
-    ((λ k b. (stands-within _ t _ _ (all.all_combined-all.ensures t l x h p) k b).0), t.no_tick, fits)
+    (stands-within _ t _ _ (all.all_combined-all.ensures t l x h p), t.no_tick, fits)
 
 pub returns : goal.returns
 returns c =
@@ -52,6 +53,6 @@ returns c =
           let one = together_some t.clocks x l (marks_of start.args.taken) _ _ first.first_marked-first.ensures (read_length t list l h count.list_of-waiting.result count.list_of-waiting.ensures)
           (read-few t list l h count.list_of-waiting.result count.list_of-waiting.ensures) (length_marks start.args.taken) some.if-n-first.false in
           subst (Emits t _ _ _ _) (emits_one _ _ _ s _ _ _ refl one)
-          (call.emit_one.ensures.emits start.args.globals.now t s (fold (combined_of t.clocks) (marked l (marks_of start.args.taken)) x) m (all.all_combined-all.ensures t l x h p)));
+          (call.emit_one.ensures.emits (globals_of start.args.notes.now) t s (fold (combined_of t.clocks) (marked l (marks_of start.args.taken)) x) m (all.all_combined-all.ensures t l x h p)));
       beyond = call.emit_one.ensures.beyond;
     }
