@@ -24,7 +24,7 @@ use Rattle.operators.proofs.act.Goals as goal
 pub emit_one-requires : goal.emit_one-requires
 emit_one-requires c =
     let ((t, x, y, h, p), fits, spares) = c.requires in
-    ((λ k b. (stands-within _ t _ _ p k b).0), t.no_tick, fits)
+    (stands-within _ t _ _ p, t.no_tick, fits)
 
 pub returns-then-turn-eq-PASS-clause-acts : goal.returns-then-turn-eq-PASS-clause-acts
 returns-then-turn-eq-PASS-clause-acts c = λ t node x one takes i p h.
