@@ -102,8 +102,7 @@ fn write_each(
     list: &[Packed],
     taken: u64,
     o: &Packed,
-    ticks: &[u64],
-    globals: &[u64],
+    notes: &[Note],
 ) -> io::Result<()>
     requires { Arrives ticks.now globals.now list.now o.now }
 {
@@ -124,8 +123,7 @@ fn write_together(
     list: &[Packed],
     taken: u64,
     o: &Packed,
-    ticks: &[u64],
-    globals: &[u64],
+    notes: &[Note],
 ) -> io::Result<()>
     requires { Arrives ticks.now globals.now list.now o.now }
 {
@@ -142,8 +140,7 @@ fn write_made(
     list: &[Packed],
     taken: u64,
     o: &Packed,
-    ticks: &[u64],
-    globals: &[u64],
+    notes: &[Note],
 ) -> io::Result<()>
     requires { Arrives ticks.now globals.now list.now o.now }
 {
@@ -161,8 +158,7 @@ fn work(
     list: &mut Row,
     candidates: u64,
     o: &Packed,
-    ticks: &[u64],
-    globals: &[u64],
+    notes: &[Note],
 ) -> io::Result<()>
     requires { Arrives ticks.now globals.now list.old o.now }
 {

@@ -35,10 +35,10 @@ fn ended(run: detector::Run) -> Answer
     ensures { (p : Progress) (out out' : List ℕ) → Says p out run out' → Answers (end_of p) out result out' }
 {
     let bytes = run.bytes as u64;
-    match run.ended {
-        Some(stop) => Answer {
-            number: stop.limit.number(),
-            place: stop.event as u64,
+    match run.limit {
+        Some(limit) => Answer {
+            number: limit.number(),
+            place: run.event as u64,
             findings: run.findings,
             bytes,
         },

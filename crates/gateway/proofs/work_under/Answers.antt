@@ -19,20 +19,17 @@ slice_bounds-check_passage-end-2 c = sym (length-take-le _ _ (omega (arith, c.re
 
 pub check_passage-check-requires : goal.check_passage-check-requires
 check_passage-check-requires c =
-    let s = c in
-    let known = s.requires.0 in (
-      omega (arith, length-take s.args.read.kind_count s.args.kinds.now, known.kinds-most),
-      omega (arith, length-take s.args.read.logger_count s.args.loggers.now, known.loggers-most),
+    let known = c.requires.0 in (
+      omega (arith, length-take c.args.read.kind_count c.args.kinds.now, known.kinds-most),
+      omega (arith, length-take c.args.read.logger_count c.args.loggers.now, known.loggers-most),
       known.rising.0,
       known.rising.1,
-      s.requires.1,
-      s.requires.2,
+      c.requires.1,
     )
 
 pub returns-in-Err : goal.returns-in-Err
 returns-in-Err c =
-    let s = c in
-    let a = answer_of (Ok s.args.read) s.args.loggers.now s.args.kinds.now s.args.nodes.now in
+    let a = answer_of (Ok c.args.read) c.args.loggers.now c.args.kinds.now c.args.nodes.now in
     let refusal = c.in-Err.refusal in
     let checked = c.in-Err.ensures a.plan refl refl refl in
     answers_same _ _ _ _ _
@@ -41,15 +38,13 @@ returns-in-Err c =
 
 pub run_in_rows-run-requires : goal.run_in_rows-run-requires
 run_in_rows-run-requires c =
-    let s = c in
-    let a = answer_of (Ok s.args.read) s.args.loggers.now s.args.kinds.now s.args.nodes.now in
+    let a = answer_of (Ok c.args.read) c.args.loggers.now c.args.kinds.now c.args.nodes.now in
     let checked = c.in-Ok.ensures a.plan refl refl refl in
-    (s.requires.0.nodes-most, (plan_clocks a.plan, noted_themselves _ _ _ _ _ _ _ checked.1), s.requires.0.slotted)
+    (c.requires.0.nodes-most, (plan_clocks a.plan, noted_themselves _ _ _ _ _ _ _ checked.1), c.requires.0.slotted)
 
 pub returns : goal.returns
 returns c =
-    let s = c in
-    let a = answer_of (Ok s.args.read) s.args.loggers.now s.args.kinds.now s.args.nodes.now in
+    let a = answer_of (Ok c.args.read) c.args.loggers.now c.args.kinds.now c.args.nodes.now in
     let checked = c.in-Ok.ensures a.plan refl refl refl in
     answers_same _ _ _ _ _
     (both-accepted _ _ a refl _ checked.0)
