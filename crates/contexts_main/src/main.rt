@@ -12,6 +12,7 @@ ghost use Rattle.waiting_lists.specs.Waiting.{appended_to};
 use event_sets::EventSet;
 use occurrences::Packed;
 use std::io;
+use timestamps::Note;
 
 // A waiting list that has room for 16, in front of its places.
 type Row = [Packed; 17];
@@ -104,13 +105,13 @@ fn write_each(
     o: &Packed,
     notes: &[Note],
 ) -> io::Result<()>
-    requires { Arrives ticks.now globals.now list.now o.now }
+    requires { Arrives notes.now list.now o.now }
 {
     let waiting = waiting_lists::list_of(list);
     for i in 0..waiting.len {
         if waiting_lists::is_marked(taken, i) {
             let place = waiting_lists::place_at(waiting, i);
-            let c = occurrences::combined(&list[place], o, ticks, globals);
+            let c = occurrences::combined(&list[place], o, notes);
             write_events(rt, &c)?;
         }
     }
@@ -125,10 +126,10 @@ fn write_together(
     o: &Packed,
     notes: &[Note],
 ) -> io::Result<()>
-    requires { Arrives ticks.now globals.now list.now o.now }
+    requires { Arrives notes.now list.now o.now }
 {
     if waiting_lists::first_marked(taken) < waiting_lists::list_of(list).len {
-        let all = contexts::all_combined(list, taken, o, ticks, globals);
+        let all = contexts::all_combined(list, taken, o, notes);
         write_events(rt, &all)?;
     }
     Ok(())
@@ -142,12 +143,12 @@ fn write_made(
     o: &Packed,
     notes: &[Note],
 ) -> io::Result<()>
-    requires { Arrives ticks.now globals.now list.now o.now }
+    requires { Arrives notes.now list.now o.now }
 {
     if contexts::makes_each(context) {
-        write_each(rt, list, taken, o, ticks, globals)
+        write_each(rt, list, taken, o, notes)
     } else {
-        write_together(rt, list, taken, o, ticks, globals)
+        write_together(rt, list, taken, o, notes)
     }
 }
 
@@ -160,11 +161,11 @@ fn work(
     o: &Packed,
     notes: &[Note],
 ) -> io::Result<()>
-    requires { Arrives ticks.now globals.now list.old o.now }
+    requires { Arrives notes.now list.old o.now }
 {
-    let c = contexts::choose(context, list, candidates, ticks, globals);
+    let c = contexts::choose(context, list, candidates, notes);
     write(rt, " makes")?;
-    write_made(rt, context, list, c.taken, o, ticks, globals)?;
+    write_made(rt, context, list, c.taken, o, notes)?;
     waiting_lists::remove_from(list, c.removed);
     write(rt, " leaves")?;
     write_waiting(rt, list)?;
@@ -172,11 +173,11 @@ fn work(
 }
 
 // The candidates of those that wait in a row.
-fn candidates(operator: Operator, list: &Row, o: &Packed, ticks: &[u64], globals: &[u64]) -> u64
-    requires { Arrives ticks.now globals.now list.now o.now }
+fn candidates(operator: Operator, list: &Row, o: &Packed, notes: &[Note]) -> u64
+    requires { Arrives notes.now list.now o.now }
 {
     match operator {
-        Operator::Seq => contexts::before_arrival(list, o, ticks, globals),
+        Operator::Seq => contexts::before_arrival(list, o, notes),
         Operator::And => contexts::all_waiting(waiting_in(list)),
     }
 }
@@ -185,14 +186,20 @@ fn candidates(operator: Operator, list: &Row, o: &Packed, ticks: &[u64], globals
 // global tick.
 fn arrive(rt: &impl Print, operator: Operator, context: u64, name: &str) -> io::Result<()> {
     let mut list = [[0u64; 3]; 17];
-    let ticks = [0u64, 81, 96, 121, 101, 301];
-    let globals = [0u64, 9, 10, 13, 11, 31];
+    let notes = [
+        Note { tick: 0, global: 0 },
+        Note { tick: 81, global: 9 },
+        Note { tick: 96, global: 10 },
+        Note { tick: 121, global: 13 },
+        Note { tick: 101, global: 11 },
+        Note { tick: 301, global: 31 },
+    ];
     wait_four(&mut list);
     let o = occurrences::of_event(2, 2);
-    let marks = candidates(operator, &list, &o, &ticks, &globals);
+    let marks = candidates(operator, &list, &o, &notes);
     write(rt, operator.name())?;
     write(rt, name)?;
-    work(rt, context, &mut list, marks, &o, &ticks, &globals)
+    work(rt, context, &mut list, marks, &o, &notes)
 }
 
 // In each of the four contexts.
