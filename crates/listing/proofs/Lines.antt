@@ -9,7 +9,7 @@ use lib.ListN.{length, take, drop, get_or, length-take}
 use lib.Seq.{drop-cons, get_or-take, drop-length, drop-drop, drop-nil}
 use Rattle.std.specs.Prelude.{Some, None}
 use Rattle.event_sets.specs.declared.EventSet.{EventSet}
-use Rattle.event_sets.specs.Sets.{elements, elements_from, next_from}
+use Rattle.event_sets.specs.Sets.{elements_from, next_from}
 use Rattle.event_sets.proofs.Walks.{walk_next, next-none}
 use Rattle.readings.specs.Reader.{FindingAnswer, read_finding}
 use Rattle.listing.specs.Text.{comma, listed, number_text, line_text, lines_at}
