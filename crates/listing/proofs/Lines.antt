@@ -10,7 +10,7 @@ use lib.ListN.{length, drop, get_or}
 use lib.Seq.{drop-cons}
 use Rattle.std.specs.Prelude.{Some, None}
 use Rattle.event_sets.specs.declared.EventSet.{EventSet}
-use Rattle.event_sets.specs.Sets.{elements, elements_from, next_from}
+use Rattle.event_sets.specs.Sets.{elements_from, next_from}
 use Rattle.event_sets.proofs.Walks.{walk_next, next-none}
 use Rattle.readings.specs.Reader.{FindingAnswer, read_finding}
 use Rattle.listing.specs.Text.{comma, listed, number_text, line_text, lines_at}
