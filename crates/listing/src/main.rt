@@ -176,7 +176,7 @@ fn fail(rt: &impl Eprint, what: &str, error: io::Error) {
     let _ = eprintln!(rt; "{what}: {words}");
 }
 
-// Reads until the file ends or buf is full. A read that fails is no end.
+// Reads until the file ends or buf is full. A read that fails is no end. A while loop, since each read says how far it went.
 fn read_file(file: &mut impl Read, buf: &mut [u8]) -> io::Result<usize>
     ensures { IfOk result (λ n. n ≤ length buf.new) }
 {
