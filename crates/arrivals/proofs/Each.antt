@@ -1,7 +1,7 @@
 -- What an arrival makes goes out: one for each marked, from the first mark on, or one for all.
 use mathlib.Core.Bool.{Bool, true, false}
 use mathlib.Core.List.{List, [], ◌∷◌, map}
-use mathlib.Core.Path.{◌≡◌, refl, sym, ap, subst, ◌∙◌}
+use mathlib.Core.Path.{◌≡◌, sym, ap, subst, ◌∙◌}
 use Prim.Native.Nat.{ℕ, ◌≤◌, ◌<◌}
 use lib.ListN.{get_or, length, set}
 use Rattle.sequences.specs.Loops.{fold}
@@ -14,10 +14,10 @@ use Rattle.occurrences.specs.Packed.{Notes}
 use Rattle.contexts.specs.Made.{made_of}
 use Rattle.contexts.specs.Table.{Findings}
 use Rattle.emissions.specs.declared.Limit.{Limit}
-use Rattle.emissions.specs.declared.Tally.{Tally}
+use Rattle.emissions.specs.declared.Made.{Made}
 use Rattle.emissions.specs.Emissions.{Emits, Emitting, emitted, emitted_all, reached}
 use Rattle.emissions.proofs.Limits.{emitted_still}
-use Rattle.std.specs.Prelude.{Option, Some}
+use Rattle.std.specs.Prelude.{Option}
 
 -- ---- a loop over those marked that passes on something made of each
 module _ {S A B : Type 0} (f : S → B → S) (g : A → B) (l : List A) (m : List Bool) where
@@ -46,7 +46,7 @@ pub emits_by : (room : ℕ) (loggers : List ℕ) (place : ℕ) (e r : Emitting) 
 emits_by room loggers place e r x y clocks those o h k = rw h k
 
 -- a limit is met: whatever was left to make, that is all
-pub emits_stopped : {ticks globals : List ℕ} (t : Notes ticks globals) (room : ℕ) (loggers : List ℕ) (place : ℕ) {tally : Tally} {row : List (List ℕ)} {out : List ℕ} {met : Option Limit} {e whole : Emitting}
-    → Emits t met tally row out e → reached met ≡ true → (left : List Occurrence) → fold (emitted room loggers place) left e ≡ whole → Emits t met tally row out whole
+pub emits_stopped : {ticks globals : List ℕ} (t : Notes ticks globals) (room : ℕ) (loggers : List ℕ) (place : ℕ) {made : Made} {out : List ℕ} {met : Option Limit} {e whole : Emitting}
+    → Emits t met made out e → reached met ≡ true → (left : List Occurrence) → fold (emitted room loggers place) left e ≡ whole → Emits t met made out whole
 emits_stopped t room loggers place {met = met} {e = e} h r left same =
-    subst (Emits t met _ _ _) (sym (fold_still _ e (emitted_still room loggers place e (ap reached h.limit ∙ r)) left) ∙ same) h
+    subst (Emits t met _ _) (sym (fold_still _ e (emitted_still room loggers place e (ap reached h.limit ∙ r)) left) ∙ same) h

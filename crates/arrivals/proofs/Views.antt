@@ -4,11 +4,11 @@ use mathlib.Core.Path.{◌≡◌}
 use Prim.Native.Nat.{ℕ}
 use Rattle.occurrences.specs.Packed.{Notes}
 use Rattle.std.specs.Prelude.{None}
-use Rattle.emissions.specs.declared.Tally.{Tally}
+use Rattle.emissions.specs.declared.Made.{Made}
 use Rattle.emissions.specs.Emissions.{Emits, Emitting}
 
--- the tally stands for what was made so far, without a limit, and what is left of it, `rest`, comes to the whole
-pub record Left {ticks globals : List ℕ} (t : Notes ticks globals) (tally : Tally) (row : List (List ℕ)) (out : List ℕ) (rest : Emitting → Emitting) (whole : Emitting) : Type 0 where
+-- what the code keeps stands for what was made so far, without a limit, and what is left of it, `rest`, comes to the whole
+pub record Left {ticks globals : List ℕ} (t : Notes ticks globals) (made : Made) (out : List ℕ) (rest : Emitting → Emitting) (whole : Emitting) : Type 0 where
   pub so_far : Emitting
-  pub emits : Emits t None tally row out so_far
+  pub emits : Emits t None made out so_far
   pub same : rest so_far ≡ whole

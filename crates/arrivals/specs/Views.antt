@@ -3,9 +3,9 @@ use Rattle.timestamps.specs.declared.Note.{Note}
 use Rattle.std.specs.Prelude.{Bool, List, None, ◌⊎◌, ◌≡◌, ℕ, ◌+◌, ◌<◌, length}
 use Rattle.timestamps.specs.Order.{Clocks}
 use Rattle.occurrences.specs.declared.Occurrence.{Occurrence}
-use Rattle.occurrences.specs.Packed.{Notes, NotesOf, Stands}
+use Rattle.occurrences.specs.Packed.{NotesOf, Stands}
 use Rattle.waiting_lists.specs.Lists.{Waits, list_of}
-use Rattle.emissions.specs.declared.Tally.{Tally}
+use Rattle.emissions.specs.declared.Made.{Made}
 use Rattle.emissions.specs.Emissions.{Emits, Emitting}
 use Rattle.arrivals.specs.Meetings.{Action, candidates_of, removed_by}
 
@@ -22,11 +22,11 @@ unfoldable pub looked_for : Action → Clocks → (own other : List Occurrence) 
 looked_for action clocks own other o = removed_by action clocks other (candidates_of action clocks own other o) o
 
 -- that there are such notes and occurrences: of an arrival at a list, and beside two, where no limit is met yet
-abbrev pub Meets : (notes : List Note) (list : List (List ℕ)) (tally : Tally) (made : List (List ℕ)) (out o : List ℕ) → Type 0
-Meets notes list tally made out o =
-    (t : NotesOf notes) × (l : List Occurrence) × (s : Emitting) × (x : Occurrence) × Waits t list l × Emits t None tally made out s × Stands t o x
+abbrev pub Meets : (notes : List Note) (list : List (List ℕ)) (made : Made) (out o : List ℕ) → Type 0
+Meets notes list made out o =
+    (t : NotesOf notes) × (l : List Occurrence) × (s : Emitting) × (x : Occurrence) × Waits t list l × Emits t None made out s × Stands t o x
 
-abbrev pub MeetsBoth : (notes : List Note) (own other : List (List ℕ)) (tally : Tally) (made : List (List ℕ)) (out o : List ℕ) → Type 0
-MeetsBoth notes own other tally made out o =
+abbrev pub MeetsBoth : (notes : List Note) (own other : List (List ℕ)) (made : Made) (out o : List ℕ) → Type 0
+MeetsBoth notes own other made out o =
     (t : NotesOf notes) × (k : List Occurrence) × (l : List Occurrence) × (s : Emitting) × (x : Occurrence)
-    × Waits t own k × Waits t other l × Emits t None tally made out s × Stands t o x
+    × Waits t own k × Waits t other l × Emits t None made out s × Stands t o x

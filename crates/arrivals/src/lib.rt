@@ -1,5 +1,5 @@
 // One arrival at a node, part by part: the candidates among those that wait, those taken and removed, the findings, and whether the arrival waits itself.
-// Waiting lists, a row for what the node makes and a tally are lent; what is returned is the limit that ends the work, if one is met.
+// Waiting lists and what the node makes are lent; what is returned is the limit that ends the work, if one is met.
 #![tactic(auto)]
 
 ghost use Rattle.std.specs.Prelude.{List, ◌∷◌, None, map, ◌≡◌, ℕ, ◌<◌, length};
@@ -16,13 +16,12 @@ ghost use Rattle.contexts.specs.Choice.{chosen, seq_candidates};
 ghost use Rattle.contexts.specs.Made.{accumulated_of, groups_of, made_of};
 ghost use Rattle.contexts.specs.Steps.{Some};
 ghost use Rattle.contexts.specs.Table.{row_of, together};
-ghost use Rattle.emissions.specs.Emissions.{Emits, Emitting, InOutput, bytes_in, emitted_all, findings_in};
+ghost use Rattle.emissions.specs.Emissions.{Emits, Emitting, InOutput, emitted_all};
 ghost use Rattle.arrivals.specs.Meetings.{action_from, full_limit, may_wait, waits_by};
 ghost use Rattle.arrivals.specs.Views.{Looks, Meets, MeetsBoth, Spare, looked_for};
 
 use contexts::Choice;
-use detections::LoggerNumbers;
-use emissions::{Limit, Made, Tally};
+use emissions::{Limit, Made, Setting};
 use occurrences::Packed;
 use timestamps::Note;
 
@@ -49,23 +48,20 @@ pub const NOTHING: u16 = 7;
 
 // One finding for each taken, in waiting order.
 fn emit_each(
-    tally: &mut Tally,
     made: &mut Made,
     list: &[Packed],
     taken: u64,
     o: &Packed,
     place: u64,
-    notes: &[Note],
-    loggers: &LoggerNumbers,
+    setting: &Setting,
     out: &mut [u8],
 ) -> Result<(), Limit>
-    requires { Meets notes.now list.now tally.old made.old out.old o.now × InOutput tally.old out.old }
-    ensures emits { (t : NotesOf notes.now) (l : List Occurrence) (s : Emitting) (x : Occurrence)
-        → Waits t list.now l → Emits t None tally.old made.old out.old s → Stands t o.now x
-        → Emits t (result_err result) tally.new made.new out.new
-        (emitted_all (length out.old) loggers.now place s (map (λ w. combined_of t.clocks w x) (marked l (marks_of taken)))) }
-    ensures beyond { Beyond out.old out.new (bytes_in tally.old)
-        (findings_in tally.new) (bytes_in tally.new) }
+    requires { Meets setting.now.notes.now list.now made.old out.old o.now × InOutput made.old out.old }
+    ensures emits { (t : NotesOf setting.now.notes.now) (l : List Occurrence) (s : Emitting) (x : Occurrence)
+        → Waits t list.now l → Emits t None made.old out.old s → Stands t o.now x
+        → Emits t (result_err result) made.new out.new
+        (emitted_all (length out.old) setting.now.loggers.now place s (map (λ w. combined_of t.clocks w x) (marked l (marks_of taken)))) }
+    ensures beyond { Beyond out.old out.new made.old.bytes made.new.findings made.new.bytes }
 {
     let waiting = waiting_lists::list_of(list);
     let n = waiting.len;
@@ -73,8 +69,8 @@ fn emit_each(
     let mut i = waiting_lists::first_marked(rest);
     while i < n {
         let at = waiting_lists::place_at(waiting, i);
-        let c = occurrences::combined(&list[at], o, notes);
-        emissions::emit_one(tally, made, place, &c, notes, loggers, out)?;
+        let c = occurrences::combined(&list[at], o, setting.notes);
+        emissions::emit_one(made, place, &c, setting, out)?;
         // Without its lowest mark.
         rest = rest & (rest - 1);
         i = waiting_lists::first_marked(rest);
@@ -84,23 +80,20 @@ fn emit_each(
 
 // One finding for all taken together, if any is.
 fn emit_together(
-    tally: &mut Tally,
     made: &mut Made,
     list: &[Packed],
     taken: u64,
     o: &Packed,
     place: u64,
-    notes: &[Note],
-    loggers: &LoggerNumbers,
+    setting: &Setting,
     out: &mut [u8],
 ) -> Result<(), Limit>
-    requires { Meets notes.now list.now tally.old made.old out.old o.now × InOutput tally.old out.old }
-    ensures emits { (t : NotesOf notes.now) (l : List Occurrence) (s : Emitting) (x : Occurrence)
-        → Waits t list.now l → Emits t None tally.old made.old out.old s → Stands t o.now x
-        → Emits t (result_err result) tally.new made.new out.new
-        (emitted_all (length out.old) loggers.now place s (made_of together t.clocks (marked l (marks_of taken)) x)) }
-    ensures beyond { Beyond out.old out.new (bytes_in tally.old)
-        (findings_in tally.new) (bytes_in tally.new) }
+    requires { Meets setting.now.notes.now list.now made.old out.old o.now × InOutput made.old out.old }
+    ensures emits { (t : NotesOf setting.now.notes.now) (l : List Occurrence) (s : Emitting) (x : Occurrence)
+        → Waits t list.now l → Emits t None made.old out.old s → Stands t o.now x
+        → Emits t (result_err result) made.new out.new
+        (emitted_all (length out.old) setting.now.loggers.now place s (made_of together t.clocks (marked l (marks_of taken)) x)) }
+    ensures beyond { Beyond out.old out.new made.old.bytes made.new.findings made.new.bytes }
 {
     let first = waiting_lists::first_marked(taken);
     let waiting = waiting_lists::list_of(list);
@@ -108,39 +101,32 @@ fn emit_together(
     if n <= first {
         return Ok(());
     }
-    let all = contexts::all_combined(list, taken, o, notes);
-    emissions::emit_one(tally, made, place, &all, notes, loggers, out)
+    let all = contexts::all_combined(list, taken, o, setting.notes);
+    emissions::emit_one(made, place, &all, setting, out)
 }
 
 // What an arrival makes of those taken, by the context.
 pub fn emit_made(
-    tally: &mut Tally,
     made: &mut Made,
     list: &[Packed],
     taken: u64,
     o: &Packed,
     context: u64,
     place: u64,
-    notes: &[Note],
-    loggers: &LoggerNumbers,
+    setting: &Setting,
     out: &mut [u8],
 ) -> Result<(), Limit>
-    requires { Meets notes.now list.now tally.old made.old out.old o.now × InOutput tally.old out.old }
-    ensures emits { (t : NotesOf notes.now) (l : List Occurrence) (s : Emitting) (x : Occurrence)
-        → Waits t list.now l → Emits t None tally.old made.old out.old s → Stands t o.now x
-        → Emits t (result_err result) tally.new made.new out.new
-        (emitted_all (length out.old) loggers.now place s (made_of (row_of context).finds t.clocks (marked l (marks_of taken)) x)) }
-    ensures beyond { Beyond out.old out.new (bytes_in tally.old)
-        (findings_in tally.new) (bytes_in tally.new) }
+    requires { Meets setting.now.notes.now list.now made.old out.old o.now × InOutput made.old out.old }
+    ensures emits { (t : NotesOf setting.now.notes.now) (l : List Occurrence) (s : Emitting) (x : Occurrence)
+        → Waits t list.now l → Emits t None made.old out.old s → Stands t o.now x
+        → Emits t (result_err result) made.new out.new
+        (emitted_all (length out.old) setting.now.loggers.now place s (made_of (row_of context).finds t.clocks (marked l (marks_of taken)) x)) }
+    ensures beyond { Beyond out.old out.new made.old.bytes made.new.findings made.new.bytes }
 {
     if contexts::makes_each(context) {
-        emit_each(
-            tally, made, list, taken, o, place, notes, loggers, out,
-        )
+        emit_each(made, list, taken, o, place, setting, out)
     } else {
-        emit_together(
-            tally, made, list, taken, o, place, notes, loggers, out,
-        )
+        emit_together(made, list, taken, o, place, setting, out)
     }
 }
 
@@ -178,7 +164,6 @@ fn next_group(context: u64, rest: u64) -> Group
 
 // What a third arrival accumulates of the lefts taken, by the context, with the middles between; beside it, the marks of the middles before it.
 pub fn emit_accumulated(
-    tally: &mut Tally,
     made: &mut Made,
     taken: u64,
     context: u64,
@@ -187,20 +172,18 @@ pub fn emit_accumulated(
     middles: &[Packed],
     o: &Packed,
     place: u64,
-    notes: &[Note],
-    loggers: &LoggerNumbers,
+    setting: &Setting,
     out: &mut [u8],
 ) -> Result<(), Limit>
-    requires { MeetsBoth notes.now middles.now lefts.now tally.old made.old out.old o.now × InOutput tally.old out.old }
-    ensures emits { (t : NotesOf notes.now) (k l : List Occurrence) (s : Emitting) (x : Occurrence)
+    requires { MeetsBoth setting.now.notes.now middles.now lefts.now made.old out.old o.now × InOutput made.old out.old }
+    ensures emits { (t : NotesOf setting.now.notes.now) (k l : List Occurrence) (s : Emitting) (x : Occurrence)
         → Waits t middles.now k → Waits t lefts.now l
-        → Emits t None tally.old made.old out.old s → Stands t o.now x
+        → Emits t None made.old out.old s → Stands t o.now x
         → marks_of earlier ≡ seq_candidates t.clocks k x
-        → Emits t (result_err result) tally.new made.new out.new
-        (emitted_all (length out.old) loggers.now place s
+        → Emits t (result_err result) made.new out.new
+        (emitted_all (length out.old) setting.now.loggers.now place s
         (accumulated_of (row_of context).finds t.clocks (marked l (marks_of taken)) k x)) }
-    ensures beyond { Beyond out.old out.new (bytes_in tally.old)
-        (findings_in tally.new) (bytes_in tally.new) }
+    ensures beyond { Beyond out.old out.new made.old.bytes made.new.findings made.new.bytes }
 {
     let waiting = waiting_lists::list_of(lefts);
     let n = waiting.len;
@@ -208,8 +191,8 @@ pub fn emit_accumulated(
     let mut i = waiting_lists::first_marked(rest);
     while i < n {
         let group = next_group(context, rest);
-        let all = contexts::accumulated(lefts, group.lefts, middles, earlier, o, notes);
-        emissions::emit_one(tally, made, place, &all, notes, loggers, out)?;
+        let all = contexts::accumulated(lefts, group.lefts, middles, earlier, o, setting.notes);
+        emissions::emit_one(made, place, &all, setting, out)?;
         rest = group.rest;
         i = waiting_lists::first_marked(rest);
     }
@@ -253,12 +236,7 @@ pub fn candidates_of(
 }
 
 // What a context chooses of the candidates; nothing where there are none.
-pub fn choice_of(
-    context: u64,
-    list: &[Packed],
-    candidates: u64,
-    notes: &[Note],
-) -> Choice
+pub fn choice_of(context: u64, list: &[Packed], candidates: u64, notes: &[Note]) -> Choice
     requires { Known notes.now list.now }
     ensures { (t : NotesOf notes.now) (l : List Occurrence) → Waits t list.now l
         → (marks_of result.taken ≡ (chosen (row_of context) t.clocks l (marks_of candidates)).taken)

@@ -8,7 +8,7 @@ use Rattle.occurrences.specs.declared.Occurrence.{Occurrence}
 use Rattle.occurrences.specs.Packed.{Holds, Notes}
 use Rattle.emissions.specs.declared.Limit.{Limit}
 use Rattle.emissions.specs.declared.Limit.TheVariants.{ListFull, NodeFull, OutputFull}
-use Rattle.emissions.specs.declared.Tally.{Tally}
+use Rattle.emissions.specs.declared.Made.{Made}
 
 -- document 01's number of each limit
 unfoldable pub number_of : Limit → ℕ
@@ -54,23 +54,13 @@ emitted room loggers place e o =
 unfoldable pub emitted_all : ℕ → List ℕ → ℕ → Emitting → List Occurrence → Emitting
 emitted_all room loggers place e l = fold (emitted room loggers place) l e
 
--- ---- what the code's values stand for: a tally, beside the row of what the node made and the output
--- how many the node has made from this event; all findings of the passage; the place after the bytes written
-abbrev pub made_in : Tally → ℕ
-made_in tally = tally.made
-
-abbrev pub findings_in : Tally → ℕ
-findings_in tally = tally.findings
-
-abbrev pub bytes_in : Tally → ℕ
-bytes_in tally = tally.bytes
-
-pub record Emits {ticks globals : List ℕ} (t : Notes ticks globals) (met : Option Limit) (tally : Tally) (row : List (List ℕ)) (out : List ℕ) (s : Emitting) : Type 0 where
-  pub made : Holds t row (made_in tally) s.made
-  pub findings : s.findings ≡ findings_in tally
-  pub bytes : s.bytes ≡ take (bytes_in tally) out
+-- ---- what the code's value stands for, beside the output: what the node made, the findings of the passage and the bytes written
+pub record Emits {ticks globals : List ℕ} (t : Notes ticks globals) (met : Option Limit) (m : Made) (out : List ℕ) (s : Emitting) : Type 0 where
+  pub made : Holds t m.row m.count s.made
+  pub findings : s.findings ≡ m.findings
+  pub bytes : s.bytes ≡ take m.bytes out
   pub limit : s.limit ≡ met
 
 -- the place in the output is within it, and there are no more findings than bytes
-abbrev pub InOutput : Tally → (out : List ℕ) → Type 0
-InOutput tally out = (bytes_in tally ≤ length out) × (findings_in tally ≤ bytes_in tally)
+abbrev pub InOutput : Made → (out : List ℕ) → Type 0
+InOutput m out = (m.bytes ≤ length out) × (m.findings ≤ m.bytes)

@@ -8,7 +8,7 @@ ghost use Rattle.detections.specs.Writing.{Beyond};
 ghost use Rattle.occurrences.specs.declared.Occurrence.{Occurrence};
 ghost use Rattle.occurrences.specs.Packed.{Notes, Stands};
 ghost use Rattle.occurrences.specs.Steps.{Inside};
-ghost use Rattle.emissions.specs.Emissions.{Emits, Emitting, InOutput, bytes_in, emitted, findings_in, number_of};
+ghost use Rattle.emissions.specs.Emissions.{Emits, Emitting, InOutput, emitted, number_of};
 
 use detections::LoggerNumbers;
 use occurrences::Packed;
@@ -22,15 +22,20 @@ pub enum Limit {
     OutputFull = 33,
 }
 
-// What a node makes from one event: at most eight.
-pub type Made = [Packed; 8];
-
-// What is counted on the way, lent: how many findings a node has made from this event, all findings of the passage, and the place after the bytes written.
-#[derive(Clone, Copy, PartialEq, Eq, Default)]
-pub struct Tally {
-    pub made: usize,
+// What a node makes from one event, at most eight, and how many those are; all findings of the passage, and the place after the bytes written.
+#[derive(Clone, Copy)]
+pub struct Made {
+    pub row: [Packed; 8],
+    pub count: usize,
     pub findings: usize,
     pub bytes: usize,
+}
+
+// What holds for all nodes of a passage, lent: what is noted of its stamps, and its logger numbers by place.
+#[derive(Clone, Copy)]
+pub struct Setting<'a> {
+    pub notes: &'a [Note],
+    pub loggers: &'a LoggerNumbers,
 }
 
 impl Limit {
@@ -44,35 +49,27 @@ impl Limit {
 
 // One finding: 32 where this node has made eight from this event, then 33 where it does not fit whole in the output left.
 pub fn emit_one(
-    tally: &mut Tally,
     made: &mut Made,
     place: u64,
     o: &Packed,
-    notes: &[Note],
-    loggers: &LoggerNumbers,
+    setting: &Setting,
     out: &mut [u8],
 ) -> Result<(), Limit>
-    requires { Inside 8 notes.now (get_or o.now 2 0) × (get_or (ticks_of notes.now) 0 0 ≡ 0) × InOutput tally.old out.old }
-    ensures emits { (globals : List ℕ) (t : Notes (ticks_of notes.now) globals) (s : Emitting) (x : Occurrence)
-        → Emits t None tally.old made.old out.old s → Stands t o.now x
-        → Emits t (result_err result) tally.new made.new out.new (emitted (length out.old) loggers.now place s x) }
-    ensures beyond { Beyond out.old out.new (bytes_in tally.old)
-        (findings_in tally.new) (bytes_in tally.new) }
+    requires { Inside 8 setting.now.notes.now (get_or o.now 2 0) × (get_or (ticks_of setting.now.notes.now) 0 0 ≡ 0) × InOutput made.old out.old }
+    ensures emits { (globals : List ℕ) (t : Notes (ticks_of setting.now.notes.now) globals) (s : Emitting) (x : Occurrence)
+        → Emits t None made.old out.old s → Stands t o.now x
+        → Emits t (result_err result) made.new out.new (emitted (length out.old) setting.now.loggers.now place s x) }
+    ensures beyond { Beyond out.old out.new made.old.bytes made.new.findings made.new.bytes }
 {
-    let n = tally.made;
-    if made.len() <= n {
+    if made.row.len() <= made.count {
         return Err(Limit::NodeFull);
     }
-    let at = tally.bytes;
-    if !detections::fits(o, notes, out.len() - at) {
+    if !detections::fits(o, setting.notes, out.len() - made.bytes) {
         return Err(Limit::OutputFull);
     }
-    let next = detections::write(out, at, place, o, notes, loggers);
-    made[n] = *o;
-    *tally = Tally {
-        made: n + 1,
-        findings: tally.findings + 1,
-        bytes: next,
-    };
+    made.bytes = detections::write(out, made.bytes, place, o, setting.notes, setting.loggers);
+    made.row[made.count] = *o;
+    made.count += 1;
+    made.findings += 1;
     Ok(())
 }

@@ -17,7 +17,7 @@ use Rattle.operators.specs.Turns.{Turned, sides_of}
 use Rattle.operators.specs.Views.{Half, Halves, HoldsTurned, own_part}
 use Rattle.operators.proofs.Sides.{Held, half_is, held_of, other_back, other_part, own_back}
 use Rattle.emissions.specs.declared.Limit.{Limit}
-use Rattle.emissions.specs.declared.Tally.{Tally}
+use Rattle.emissions.specs.declared.Made.{Made}
 use Rattle.std.specs.Prelude.{Option}
 
 abbrev pub lent : Part → List (List ℕ) → List (List ℕ)
@@ -67,8 +67,8 @@ module _ (turn : Turn) (end : ℕ) (own other : Part) (halves : Halves turn end 
       other-then many = other_back t input split l w mine others h _ _ (many ∙ other-long) halves.1.from (rw long halves.1.to) those q
 
 -- ---- an arrival's two sides, as they are lent
-module _ (turn : Turn) (own other : Part) {ticks globals : List ℕ} (t : Notes ticks globals) {met : Option Limit} {lists : List (List ℕ)} {tally : Tally} {made : List (List ℕ)} {out : List ℕ}
-    (x : Turned) (h : HoldsTurned t met turn.split lists tally made out x) (halves : Halves turn (length lists) own other) where
+module _ (turn : Turn) (own other : Part) {ticks globals : List ℕ} (t : Notes ticks globals) {met : Option Limit} {lists : List (List ℕ)} {made : Made} {out : List ℕ}
+    (x : Turned) (h : HoldsTurned t met turn.split lists made out x) (halves : Halves turn (length lists) own other) where
   abbrev pub mine : List Occurrence
   mine = (sides_of turn.input x).own
 

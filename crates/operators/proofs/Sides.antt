@@ -15,7 +15,7 @@ use Rattle.waiting_lists.specs.Lists.{Waits}
 use Rattle.waiting_lists.specs.Waiting.{appended_to, is_full}
 use Rattle.emissions.specs.declared.Limit.{Limit}
 use Rattle.emissions.specs.declared.Limit.TheVariants.{ListFull}
-use Rattle.emissions.specs.declared.Tally.{Tally}
+use Rattle.emissions.specs.declared.Made.{Made}
 use Rattle.std.specs.Prelude.{Option, None, Some}
 use Rattle.emissions.specs.Emissions.{Emits, Emitting, ended}
 use Rattle.emissions.proofs.Emitting.{emits_as, emits_ended}
@@ -69,18 +69,18 @@ module _ {ticks globals : List ℕ} (t : Notes ticks globals) (input split : ℕ
   held_by true e lists x w = record { inside = w.inside; own-waits = rw e w.left-waits; other-waits = rw e w.middle-waits }
   held_by false e lists x w = record { inside = w.inside; own-waits = rw e w.middle-waits; other-waits = rw e w.left-waits }
 
-  pub held_of : {met : Option Limit} {lists : List (List ℕ)} {tally : Tally} {made : List (List ℕ)} {out : List ℕ} (x : Turned) → HoldsTurned t met split lists tally made out x
+  pub held_of : {met : Option Limit} {lists : List (List ℕ)} {made : Made} {out : List ℕ} (x : Turned) → HoldsTurned t met split lists made out x
       → Held t input split lists (sides_of input x).own (sides_of input x).other
   held_of {lists = lists} x h = held_by (eqb input 0) refl lists x h.waits
 
-  turned_by : (b : Bool) → eqb input 0 ≡ b → {met : Option Limit} {lists : List (List ℕ)} {tally : Tally} {made : List (List ℕ)} {out : List ℕ} (own other : List Occurrence) (e : Emitting)
-      → Held t input split lists own other → Emits t met tally made out e → HoldsTurned t met split lists tally made out (turned_of input (sides own other e))
+  turned_by : (b : Bool) → eqb input 0 ≡ b → {met : Option Limit} {lists : List (List ℕ)} {made : Made} {out : List ℕ} (own other : List Occurrence) (e : Emitting)
+      → Held t input split lists own other → Emits t met made out e → HoldsTurned t met split lists made out (turned_of input (sides own other e))
   unfolding turned_of
   turned_by true q own other e h m = rw q (record { waits = record { inside = h.inside; left-waits = rw q at h.own-waits; middle-waits = rw q at h.other-waits }; emit = m })
   turned_by false q own other e h m = rw q (record { waits = record { inside = h.inside; left-waits = rw q at h.other-waits; middle-waits = rw q at h.own-waits }; emit = m })
 
-  pub turned_of_lem : {met : Option Limit} {lists : List (List ℕ)} {tally : Tally} {made : List (List ℕ)} {out : List ℕ} (own other : List Occurrence) (e : Emitting)
-      → Held t input split lists own other → Emits t met tally made out e → HoldsTurned t met split lists tally made out (turned_of input (sides own other e))
+  pub turned_of_lem : {met : Option Limit} {lists : List (List ℕ)} {made : Made} {out : List ℕ} (own other : List Occurrence) (e : Emitting)
+      → Held t input split lists own other → Emits t met made out e → HoldsTurned t met split lists made out (turned_of input (sides own other e))
   turned_of_lem own other e h m = turned_by (eqb input 0) refl own other e h m
 
   -- one side comes back
@@ -129,18 +129,18 @@ module _ {ticks globals : List ℕ} (t : Notes ticks globals) (input split : ℕ
         → Held t input split then own other'
     other_back f g other' k = other_by (eqb input 0) refl f g other' k
 
-pub holds_as : {ticks globals : List ℕ} (t : Notes ticks globals) {met : Option Limit} {split : ℕ} {lists : List (List ℕ)} {tally : Tally} {made : List (List ℕ)} {out : List ℕ} {x : Turned}
-    → HoldsTurned t met split lists tally made out x → (l : Option Limit) → met ≡ l → HoldsTurned t l split lists tally made out x
+pub holds_as : {ticks globals : List ℕ} (t : Notes ticks globals) {met : Option Limit} {split : ℕ} {lists : List (List ℕ)} {made : Made} {out : List ℕ} {x : Turned}
+    → HoldsTurned t met split lists made out x → (l : Option Limit) → met ≡ l → HoldsTurned t l split lists made out x
 holds_as t h l e = record { waits = h.waits; emit = emits_as t h.emit l e }
 
 -- ---- the append: what was made stays, and 31 where the list is full
-appended_by : {ticks globals : List ℕ} (t : Notes ticks globals) {tally : Tally} {made : List (List ℕ)} {out : List ℕ} (e : Emitting) (b : Bool) → Emits t None tally made out e
-    → Emits t (pick b (Some ListFull) None) tally made out (pick b (ended e ListFull) e)
+appended_by : {ticks globals : List ℕ} (t : Notes ticks globals) {made : Made} {out : List ℕ} (e : Emitting) (b : Bool) → Emits t None made out e
+    → Emits t (pick b (Some ListFull) None) made out (pick b (ended e ListFull) e)
 appended_by t e true h = emits_ended t h ListFull
 appended_by t e false h = h
 
-pub appended_emits : {ticks globals : List ℕ} (t : Notes ticks globals) {tally : Tally} {made : List (List ℕ)} {out : List ℕ} (e : Emitting) (l : List Occurrence) (r : Option Limit)
-    → Emits t None tally made out e → r ≡ full_limit l → Emits t r tally made out (pick (is_full l) (ended e ListFull) e)
+pub appended_emits : {ticks globals : List ℕ} (t : Notes ticks globals) {made : Made} {out : List ℕ} (e : Emitting) (l : List Occurrence) (r : Option Limit)
+    → Emits t None made out e → r ≡ full_limit l → Emits t r made out (pick (is_full l) (ended e ListFull) e)
 appended_emits t e l r h k = emits_as t (appended_by t e (is_full l) h) r (sym k)
 
 pub appended-is : (own other : List Occurrence) (e : Emitting) (o : Occurrence) → sides (appended_to own o) other (pick (is_full own) (ended e ListFull) e) ≡ appended own other e o

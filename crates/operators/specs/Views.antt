@@ -12,7 +12,7 @@ use Rattle.contexts.specs.Choice.{chosen}
 use Rattle.contexts.specs.Table.{row_of}
 use Rattle.plans.specs.declared.Node.{Node}
 use Rattle.emissions.specs.declared.Limit.{Limit}
-use Rattle.emissions.specs.declared.Tally.{Tally}
+use Rattle.emissions.specs.declared.Made.{Made}
 use Rattle.emissions.specs.Emissions.{Emits}
 use Rattle.arrivals.specs.Meetings.{action_from, candidates_of, may_wait}
 use Rattle.arrivals.specs.Views.{Spare}
@@ -28,10 +28,9 @@ pub record NodeWaits {ticks globals : List ℕ} (t : Notes ticks globals) (split
   pub middle-waits : Waits t (drop split lists) middle
 
 -- the node in its turn
-pub record HoldsTurned {ticks globals : List ℕ} (t : Notes ticks globals) (met : Option Limit) (split : ℕ) (lists : List (List ℕ)) (tally : Tally) (made : List (List ℕ))
-    (out : List ℕ) (x : Turned) : Type 0 where
+pub record HoldsTurned {ticks globals : List ℕ} (t : Notes ticks globals) (met : Option Limit) (split : ℕ) (lists : List (List ℕ)) (made : Made) (out : List ℕ) (x : Turned) : Type 0 where
   pub waits : NodeWaits t split lists x.left x.middle
-  pub emit : Emits t met tally made out x.emit
+  pub emit : Emits t met made out x.emit
 
 -- one of them, as a part
 pub record Half (left : Bool) (split end : ℕ) (p : Part) : Type 0 where
@@ -64,11 +63,11 @@ abbrev pub Spares : Turn → (lists : List (List ℕ)) → ℕ → Type 0
 Spares turn lists n = may_wait (action_from turn.action) ≡ true → Spare (own_part turn.input turn.split lists) n
 
 -- ---- that there are such notes and occurrences: of one arrival, and of those of an input of a node, where no limit is met yet
-abbrev pub Offered : (turn : Turn) (notes : List Note) (lists : List (List ℕ)) (tally : Tally) (made : List (List ℕ)) (out o : List ℕ) → Type 0
-Offered turn notes lists tally made out o =
-    (t : NotesOf notes) × (x : Turned) × (y : Occurrence) × HoldsTurned t None turn.split lists tally made out x × Stands t o y
+abbrev pub Offered : (turn : Turn) (notes : List Note) (lists : List (List ℕ)) (made : Made) (out o : List ℕ) → Type 0
+Offered turn notes lists made out o =
+    (t : NotesOf notes) × (x : Turned) × (y : Occurrence) × HoldsTurned t None turn.split lists made out x × Stands t o y
 
-abbrev pub AllOffered : (turn : Turn) (notes : List Note) (lists : List (List ℕ)) (tally : Tally) (made : List (List ℕ)) (out : List ℕ) (arrivals : List (List ℕ)) → Type 0
-AllOffered turn notes lists tally made out arrivals =
+abbrev pub AllOffered : (turn : Turn) (notes : List Note) (lists : List (List ℕ)) (made : Made) (out : List ℕ) (arrivals : List (List ℕ)) → Type 0
+AllOffered turn notes lists made out arrivals =
     (t : NotesOf notes) × (node : Node) × (x : Turned) × (l : List Occurrence)
-    × Takes node turn × HoldsTurned t None turn.split lists tally made out x × Stand t arrivals l
+    × Takes node turn × HoldsTurned t None turn.split lists made out x × Stand t arrivals l

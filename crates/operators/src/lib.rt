@@ -1,5 +1,5 @@
-// The table of operators, and what it makes of the arrivals of an input at a node, until a limit ends the work. The node's waiting lists, a row for what it
-// makes and a tally are lent.
+// The table of operators, and what it makes of the arrivals of an input at a node, until a limit ends the work. The node's waiting lists and what it
+// makes are lent.
 #![tactic(auto)]
 
 ghost use Rattle.std.specs.Prelude.{List, None, ◌≡◌, ℕ, ◌≤◌, ◌<◌, get_or, length};
@@ -8,7 +8,7 @@ ghost use Rattle.detections.specs.Writing.{Beyond};
 ghost use Rattle.occurrences.specs.declared.Occurrence.{Occurrence};
 ghost use Rattle.occurrences.specs.Packed.{NotesOf, Stand, Stands};
 ghost use Rattle.plans.specs.declared.Node.{Node};
-ghost use Rattle.emissions.specs.Emissions.{InOutput, bytes_in, findings_in};
+ghost use Rattle.emissions.specs.Emissions.{InOutput};
 ghost use Rattle.arrivals.specs.Meetings.{Arrival, action_from, setting_of};
 ghost use Rattle.arrivals.specs.Views.{Looks};
 ghost use Rattle.operators.specs.Table.{action_of};
@@ -17,10 +17,8 @@ ghost use Rattle.operators.specs.Views.{AllOffered, Chose, Half, Halves, HoldsTu
 
 use arrivals::{ABSENT, ACCUMULATE, DELETE, MEET, MEET_AND_WAIT, NOTHING, PASS, WAIT};
 use contexts::Choice;
-use detections::LoggerNumbers;
-use emissions::{Limit, Made, Tally};
+use emissions::{Limit, Made, Setting};
 use occurrences::Packed;
-use timestamps::Note;
 
 // ---- the table
 
@@ -89,27 +87,23 @@ fn accumulate(
     own: Part,
     other: Part,
     lists: &mut [Packed],
-    tally: &mut Tally,
     made: &mut Made,
     o: &Packed,
-    notes: &[Note],
-    loggers: &LoggerNumbers,
+    setting: &Setting,
     out: &mut [u8],
 ) -> Result<(), Limit>
-    requires { Offered turn notes.now lists.old tally.old made.old out.old o.now × InOutput tally.old out.old
+    requires { Offered turn setting.now.notes.now lists.old made.old out.old o.now × InOutput made.old out.old
         × Halves turn (length lists.old) own other }
-    ensures acts { (t : NotesOf notes.now) (node : Node) (x : Turned) (a : Arrival)
+    ensures acts { (t : NotesOf setting.now.notes.now) (node : Node) (x : Turned) (a : Arrival)
         → turn.action ≡ 5 → Takes node turn → a.input ≡ turn.input → Stands t o.now a.occurrence
-        → HoldsTurned t None turn.split lists.old tally.old made.old out.old x
+        → HoldsTurned t None turn.split lists.old made.old out.old x
         → Chose turn t.clocks x a.occurrence candidates choice
-        → HoldsTurned t (result_err result) turn.split lists.new tally.new made.new out.new
-        (arrives (setting_of (length out.old) t.clocks loggers.now) node turn.place x a) }
-    ensures beyond { Beyond out.old out.new (bytes_in tally.old)
-        (findings_in tally.new) (bytes_in tally.new) }
+        → HoldsTurned t (result_err result) turn.split lists.new made.new out.new
+        (arrives (setting_of (length out.old) t.clocks setting.now.loggers.now) node turn.place x a) }
+    ensures beyond { Beyond out.old out.new made.old.bytes made.new.findings made.new.bytes }
 {
-    let earlier = contexts::before_arrival(&lists[own.from..own.to], o, notes);
+    let earlier = contexts::before_arrival(&lists[own.from..own.to], o, setting.notes);
     arrivals::emit_accumulated(
-        tally,
         made,
         choice.taken,
         turn.context,
@@ -118,8 +112,7 @@ fn accumulate(
         &lists[own.from..own.to],
         o,
         turn.place,
-        notes,
-        loggers,
+        setting,
         out,
     )?;
     waiting_lists::remove_from(&mut lists[other.from..other.to], candidates);
@@ -135,35 +128,30 @@ fn by_row(
     own: Part,
     other: Part,
     lists: &mut [Packed],
-    tally: &mut Tally,
     made: &mut Made,
     o: &Packed,
-    notes: &[Note],
-    loggers: &LoggerNumbers,
+    setting: &Setting,
     out: &mut [u8],
 ) -> Result<(), Limit>
-    requires { Offered turn notes.now lists.old tally.old made.old out.old o.now × InOutput tally.old out.old
+    requires { Offered turn setting.now.notes.now lists.old made.old out.old o.now × InOutput made.old out.old
         × Spares turn lists.old 1 × Halves turn (length lists.old) own other }
-    ensures acts { (t : NotesOf notes.now) (node : Node) (x : Turned) (a : Arrival)
+    ensures acts { (t : NotesOf setting.now.notes.now) (node : Node) (x : Turned) (a : Arrival)
         → Looks turn.action → (turn.action ≡ 4 → ⊥) → (turn.action ≡ 5 → ⊥)
         → Takes node turn → a.input ≡ turn.input → Stands t o.now a.occurrence
-        → HoldsTurned t None turn.split lists.old tally.old made.old out.old x
+        → HoldsTurned t None turn.split lists.old made.old out.old x
         → Chose turn t.clocks x a.occurrence candidates choice
-        → HoldsTurned t (result_err result) turn.split lists.new tally.new made.new out.new
-        (arrives (setting_of (length out.old) t.clocks loggers.now) node turn.place x a) }
-    ensures beyond { Beyond out.old out.new (bytes_in tally.old)
-        (findings_in tally.new) (bytes_in tally.new) }
+        → HoldsTurned t (result_err result) turn.split lists.new made.new out.new
+        (arrives (setting_of (length out.old) t.clocks setting.now.loggers.now) node turn.place x a) }
+    ensures beyond { Beyond out.old out.new made.old.bytes made.new.findings made.new.bytes }
 {
     arrivals::emit_made(
-        tally,
         made,
         &lists[other.from..other.to],
         choice.taken,
         o,
         turn.context,
         turn.place,
-        notes,
-        loggers,
+        setting,
         out,
     )?;
     waiting_lists::remove_from(&mut lists[other.from..other.to], choice.removed);
@@ -181,33 +169,29 @@ fn carry_out(
     own: Part,
     other: Part,
     lists: &mut [Packed],
-    tally: &mut Tally,
     made: &mut Made,
     o: &Packed,
-    notes: &[Note],
-    loggers: &LoggerNumbers,
+    setting: &Setting,
     out: &mut [u8],
 ) -> Result<(), Limit>
-    requires { Offered turn notes.now lists.old tally.old made.old out.old o.now × InOutput tally.old out.old
+    requires { Offered turn setting.now.notes.now lists.old made.old out.old o.now × InOutput made.old out.old
         × Spares turn lists.old 1 × Halves turn (length lists.old) own other }
-    ensures acts { (t : NotesOf notes.now) (node : Node) (x : Turned) (a : Arrival)
+    ensures acts { (t : NotesOf setting.now.notes.now) (node : Node) (x : Turned) (a : Arrival)
         → Looks turn.action → (turn.action ≡ 4 → ⊥)
         → Takes node turn → a.input ≡ turn.input → Stands t o.now a.occurrence
-        → HoldsTurned t None turn.split lists.old tally.old made.old out.old x
+        → HoldsTurned t None turn.split lists.old made.old out.old x
         → Chose turn t.clocks x a.occurrence candidates choice
-        → HoldsTurned t (result_err result) turn.split lists.new tally.new made.new out.new
-        (arrives (setting_of (length out.old) t.clocks loggers.now) node turn.place x a) }
-    ensures beyond { Beyond out.old out.new (bytes_in tally.old)
-        (findings_in tally.new) (bytes_in tally.new) }
+        → HoldsTurned t (result_err result) turn.split lists.new made.new out.new
+        (arrives (setting_of (length out.old) t.clocks setting.now.loggers.now) node turn.place x a) }
+    ensures beyond { Beyond out.old out.new made.old.bytes made.new.findings made.new.bytes }
 {
     if turn.action == ACCUMULATE {
         return accumulate(
-            turn, candidates, choice, own, other, lists, tally, made, o, notes, loggers,
-            out,
+            turn, candidates, choice, own, other, lists, made, o, setting, out,
         );
     }
     by_row(
-        turn, candidates, choice, own, other, lists, tally, made, o, notes, loggers, out,
+        turn, candidates, choice, own, other, lists, made, o, setting, out,
     )
 }
 
@@ -218,22 +202,19 @@ fn meet(
     own: Part,
     other: Part,
     lists: &mut [Packed],
-    tally: &mut Tally,
     made: &mut Made,
     o: &Packed,
-    notes: &[Note],
-    loggers: &LoggerNumbers,
+    setting: &Setting,
     out: &mut [u8],
 ) -> Result<(), Limit>
-    requires { Offered turn notes.now lists.old tally.old made.old out.old o.now × InOutput tally.old out.old
+    requires { Offered turn setting.now.notes.now lists.old made.old out.old o.now × InOutput made.old out.old
         × Spares turn lists.old 1 × Halves turn (length lists.old) own other }
-    ensures acts { (t : NotesOf notes.now) (node : Node) (x : Turned) (a : Arrival)
+    ensures acts { (t : NotesOf setting.now.notes.now) (node : Node) (x : Turned) (a : Arrival)
         → Looks turn.action → Takes node turn → a.input ≡ turn.input → Stands t o.now a.occurrence
-        → HoldsTurned t None turn.split lists.old tally.old made.old out.old x
-        → HoldsTurned t (result_err result) turn.split lists.new tally.new made.new out.new
-        (arrives (setting_of (length out.old) t.clocks loggers.now) node turn.place x a) }
-    ensures beyond { Beyond out.old out.new (bytes_in tally.old)
-        (findings_in tally.new) (bytes_in tally.new) }
+        → HoldsTurned t None turn.split lists.old made.old out.old x
+        → HoldsTurned t (result_err result) turn.split lists.new made.new out.new
+        (arrives (setting_of (length out.old) t.clocks setting.now.loggers.now) node turn.place x a) }
+    ensures beyond { Beyond out.old out.new made.old.bytes made.new.findings made.new.bytes }
 {
     let those = &lists[other.from..other.to];
     let candidates = arrivals::candidates_of(
@@ -241,15 +222,15 @@ fn meet(
         &lists[own.from..own.to],
         those,
         o,
-        notes,
+        setting.notes,
     );
     if turn.action == DELETE {
         waiting_lists::remove_from(&mut lists[other.from..other.to], candidates);
         return Ok(());
     }
-    let choice = arrivals::choice_of(turn.context, those, candidates, notes);
+    let choice = arrivals::choice_of(turn.context, those, candidates, setting.notes);
     carry_out(
-        turn, candidates, choice, own, other, lists, tally, made, o, notes, loggers, out,
+        turn, candidates, choice, own, other, lists, made, o, setting, out,
     )
 }
 
@@ -257,25 +238,22 @@ fn meet(
 fn act(
     turn: Turn,
     lists: &mut [Packed],
-    tally: &mut Tally,
     made: &mut Made,
     o: &Packed,
-    notes: &[Note],
-    loggers: &LoggerNumbers,
+    setting: &Setting,
     out: &mut [u8],
 ) -> Result<(), Limit>
-    requires { Offered turn notes.now lists.old tally.old made.old out.old o.now × InOutput tally.old out.old
+    requires { Offered turn setting.now.notes.now lists.old made.old out.old o.now × InOutput made.old out.old
         × Spares turn lists.old 1 }
-    ensures acts { (t : NotesOf notes.now) (node : Node) (x : Turned) (a : Arrival)
+    ensures acts { (t : NotesOf setting.now.notes.now) (node : Node) (x : Turned) (a : Arrival)
         → Takes node turn → a.input ≡ turn.input → Stands t o.now a.occurrence
-        → HoldsTurned t None turn.split lists.old tally.old made.old out.old x
-        → HoldsTurned t (result_err result) turn.split lists.new tally.new made.new out.new
-        (arrives (setting_of (length out.old) t.clocks loggers.now) node turn.place x a) }
-    ensures beyond { Beyond out.old out.new (bytes_in tally.old)
-        (findings_in tally.new) (bytes_in tally.new) }
+        → HoldsTurned t None turn.split lists.old made.old out.old x
+        → HoldsTurned t (result_err result) turn.split lists.new made.new out.new
+        (arrives (setting_of (length out.old) t.clocks setting.now.loggers.now) node turn.place x a) }
+    ensures beyond { Beyond out.old out.new made.old.bytes made.new.findings made.new.bytes }
 {
     if turn.action == PASS {
-        return emissions::emit_one(tally, made, turn.place, o, notes, loggers, out);
+        return emissions::emit_one(made, turn.place, o, setting, out);
     }
     let end = lists.len();
     let is_left = turn.input == 0;
@@ -287,34 +265,29 @@ fn act(
         return Ok(());
     }
     let other = part_of(!is_left, turn.split, end);
-    meet(
-        turn, own, other, lists, tally, made, o, notes, loggers, out,
-    )
+    meet(turn, own, other, lists, made, o, setting, out)
 }
 
 // The arrivals of one input, in the order made.
 pub fn input_turn(
     turn: Turn,
     lists: &mut [Packed],
-    tally: &mut Tally,
     made: &mut Made,
     arrivals: &[Packed],
-    notes: &[Note],
-    loggers: &LoggerNumbers,
+    setting: &Setting,
     out: &mut [u8],
 ) -> Result<(), Limit>
-    requires { AllOffered turn notes.now lists.old tally.old made.old out.old arrivals.now × InOutput tally.old out.old
+    requires { AllOffered turn setting.now.notes.now lists.old made.old out.old arrivals.now × InOutput made.old out.old
         × Spares turn lists.old (length arrivals.now) }
-    ensures turns { (t : NotesOf notes.now) (node : Node) (x : Turned) (l : List Occurrence) (event : ℕ)
+    ensures turns { (t : NotesOf setting.now.notes.now) (node : Node) (x : Turned) (l : List Occurrence) (event : ℕ)
         → Takes node turn → Stand t arrivals.now l
-        → HoldsTurned t None turn.split lists.old tally.old made.old out.old x
-        → HoldsTurned t (result_err result) turn.split lists.new tally.new made.new out.new
-        (input_turn (setting_of (length out.old) t.clocks loggers.now) node turn.place event turn.input l x) }
-    ensures beyond { Beyond out.old out.new (bytes_in tally.old)
-        (findings_in tally.new) (bytes_in tally.new) }
+        → HoldsTurned t None turn.split lists.old made.old out.old x
+        → HoldsTurned t (result_err result) turn.split lists.new made.new out.new
+        (input_turn (setting_of (length out.old) t.clocks setting.now.loggers.now) node turn.place event turn.input l x) }
+    ensures beyond { Beyond out.old out.new made.old.bytes made.new.findings made.new.bytes }
 {
     for o in arrivals {
-        act(turn, lists, tally, made, o, notes, loggers, out)?;
+        act(turn, lists, made, o, setting, out)?;
     }
     Ok(())
 }

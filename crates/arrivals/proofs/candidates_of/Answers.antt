@@ -1,7 +1,7 @@
 -- By the code.
 use Rattle.arrivals.proofs.Actions.{looked_absent, looked_before, looked_both}
 use Rattle.arrivals.specs.Meetings.{action_from}
-use Rattle.arrivals.specs.Views.{Looks, looked_for}
+use Rattle.arrivals.specs.Views.{looked_for}
 use Rattle.contexts.proofs.Absences.{all_block, none_block}
 use Rattle.contexts.specs.Choice.{absence_candidates}
 use Rattle.waiting_lists.proofs.Waits.{read-few, read_length, waits-length}

@@ -59,10 +59,10 @@ returns-in_err-emit_one c =
           let read = c.list_of-waiting in
           let next = c.next_group-group.ensures.0 l (omega (arith, c.loop-i.invariant.0, c.loop-i-test.true, read_length t a.lefts.now l h read.result read.ensures)) in
           let st = c.accumulated-all.ensures.stands t l k x h g q early next.1 in
-          let then = c.in_err-emit_one.ensures.emits (globals_of a.notes.now) t r.so_far (accumulation_of t.clocks (marked l (marks_of group.lefts)) k x) r.emits st in
+          let then = c.in_err-emit_one.ensures.emits (globals_of a.setting.now.notes.now) t r.so_far (accumulation_of t.clocks (marked l (marks_of group.lefts)) k x) r.emits st in
           let finds = (row_of a.context).finds in
           rw (p.1, p.2)
-          (emits_stopped t (length a.out.now) a.loggers.now a.place then refl (map (λ (lefts : List Occurrence). accumulation_of t.clocks lefts k x) (groups_of finds (marked l (marks_of group.rest))))
+          (emits_stopped t (length a.out.now) a.setting.now.loggers.now a.place then refl (map (λ (lefts : List Occurrence). accumulation_of t.clocks lefts k x) (groups_of finds (marked l (marks_of group.rest))))
           (group_turn _ finds t.clocks k x l (marks_of c.loop-i.rest) (marks_of group.lefts) (marks_of group.rest) next.0 r.so_far _ (rw c.loop-i.invariant.1) ∙ r.same));
       beyond = beyond_then c.loop-i.invariant.2 c.emit_one.ensures.beyond;
     }
@@ -81,8 +81,8 @@ loop-i-preserved c = let a = c.args in let group = c.next_group-group.result in 
       let next = c.next_group-group.ensures.0 l (omega (arith, c.loop-i.invariant.0, c.loop-i-test.true, read_length t a.lefts.now l h read.result read.ensures)) in
       let st = c.accumulated-all.ensures.stands t l k x h g p early next.1 in
       record {
-        so_far = emitted (length c.loop-i.out) a.loggers.now a.place r.so_far (accumulation_of t.clocks (marked l (marks_of group.lefts)) k x);
-        emits = c.in_ok-emit_one.ensures.emits (globals_of a.notes.now) t r.so_far _ r.emits st;
+        so_far = emitted (length c.loop-i.out) a.setting.now.loggers.now a.place r.so_far (accumulation_of t.clocks (marked l (marks_of group.lefts)) k x);
+        emits = c.in_ok-emit_one.ensures.emits (globals_of a.setting.now.notes.now) t r.so_far _ r.emits st;
         same = group_turn _ (row_of a.context).finds t.clocks k x l (marks_of c.loop-i.rest) (marks_of group.lefts) (marks_of group.rest) next.0 r.so_far _ (rw c.loop-i.invariant.1) ∙ r.same;
       },
 )
@@ -95,6 +95,6 @@ returns c = record {
   emits = (λ t k l s x g h m p early.
       let r = c.loop-i.invariant.3 t k l s x g h m p early in
       let past : length l ≤ first_mark (marks_of c.loop-i.rest) = omega (arith, read_length t c.args.lefts.now l h c.list_of-waiting.result c.list_of-waiting.ensures, c.loop-i.invariant.0, c.loop-i-test.false) in
-      subst (Emits t _ _ _ _) (sym (group_end _ (row_of c.args.context).finds t.clocks k x l (marks_of c.loop-i.rest) r.so_far past) ∙ r.same) r.emits);
+      subst (Emits t _ _ _) (sym (group_end _ (row_of c.args.context).finds t.clocks k x l (marks_of c.loop-i.rest) r.so_far past) ∙ r.same) r.emits);
   beyond = c.loop-i.invariant.2;
 }

@@ -5,8 +5,8 @@ use Rattle.contexts.specs.Choice.{seq_candidates}
 use Rattle.contexts.specs.Table.{row_of}
 use Rattle.detections.specs.Writing.{Beyond}
 use Rattle.std.specs.Prelude.{None}
-use Rattle.emissions.specs.Emissions.{Emits, Emitting, bytes_in, emitted, emitted_all, findings_in}
-use Rattle.occurrences.specs.Packed.{Notes, NotesOf, Stands}
+use Rattle.emissions.specs.Emissions.{Emits, Emitting, emitted, emitted_all}
+use Rattle.occurrences.specs.Packed.{NotesOf, Stands}
 use Rattle.occurrences.specs.declared.Occurrence.{Occurrence}
 use Rattle.sequences.specs.Loops.{fold}
 use Rattle.sequences.specs.Marks.{first_mark, marked}
@@ -19,12 +19,12 @@ use Rattle.arrivals.proofs.emit_accumulated.Given as goal
 
 abbrev pub invariant-loop-i : goal.invariant-loop-i
 invariant-loop-i v =
-    (v.i ≡ first_mark (marks_of v.rest)) × (length v.out ≡ length v.initial.out) × Beyond v.initial.out v.out (bytes_in v.initial.tally) (findings_in v.tally) (bytes_in v.tally)
-    × ((t : NotesOf v.notes) (k l : List Occurrence) (s : Emitting) (x : Occurrence) → Waits t v.middles k → Waits t v.lefts l → Emits t None v.initial.tally v.initial.made v.initial.out s → Stands t v.o x
+    (v.i ≡ first_mark (marks_of v.rest)) × (length v.out ≡ length v.initial.out) × Beyond v.initial.out v.out v.initial.made.bytes v.made.findings v.made.bytes
+    × ((t : NotesOf v.setting.notes.now) (k l : List Occurrence) (s : Emitting) (x : Occurrence) → Waits t v.middles k → Waits t v.lefts l → Emits t None v.initial.made v.initial.out s → Stands t v.o x
     → marks_of v.earlier ≡ seq_candidates t.clocks k x
-    → Left t v.tally v.made v.out
-    (fold (emitted (length v.initial.out) v.loggers v.place) (map (λ g. accumulation_of t.clocks g k x) (groups_of (row_of v.context).finds (marked l (marks_of v.rest)))))
-    (emitted_all (length v.initial.out) v.loggers v.place s (accumulated_of (row_of v.context).finds t.clocks (marked l (marks_of v.taken)) k x)))
+    → Left t v.made v.out
+    (fold (emitted (length v.initial.out) v.setting.loggers.now v.place) (map (λ g. accumulation_of t.clocks g k x) (groups_of (row_of v.context).finds (marked l (marks_of v.rest)))))
+    (emitted_all (length v.initial.out) v.setting.loggers.now v.place s (accumulated_of (row_of v.context).finds t.clocks (marked l (marks_of v.taken)) k x)))
 
 abbrev pub decreases-loop-i : goal.decreases-loop-i
 decreases-loop-i l = l.rest

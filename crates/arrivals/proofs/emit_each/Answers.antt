@@ -1,13 +1,12 @@
 -- What is left to make, from the state so far, is the whole; i is the first mark left.
-use Prim.Native.Nat.{ℕ, ◌<◌, ◌≤◌}
+use Prim.Native.Nat.{◌<◌, ◌≤◌}
 use Rattle.arrivals.proofs.Each.{each_end, each_turn, emits_stopped}
 use Rattle.detections.proofs.Writing.{beyond_none, beyond_then}
-use Rattle.emissions.specs.Emissions.{Emits, Emitting, emitted, emitted_all}
+use Rattle.emissions.specs.Emissions.{Emits, emitted, emitted_all}
 use Rattle.event_sets.proofs.Words.{rest_less}
 use Rattle.occurrences.proofs.Packed.{stands-within}
 use Rattle.occurrences.specs.Combination.{combined_of}
 use Rattle.occurrences.specs.Occurrences.{no_occurrence}
-use Rattle.occurrences.specs.Packed.{Stands}
 use Rattle.timestamps.specs.Notes.{globals_of}
 use Rattle.sequences.specs.Marks.{first_mark, marked}
 use Rattle.waiting_lists.proofs.Marks.{first_some, length_marks, marks_rest}
@@ -18,7 +17,7 @@ use lib.ListN.{get_or, length, set}
 use mathlib.Core.Bool.{false}
 use mathlib.Core.List.{map}
 use Rattle.std.proofs.lemmas.Result.{err_from_is_err_and}
-use mathlib.Core.Path.{◌∙◌, ◌≡◌, ap, refl, subst, sym}
+use mathlib.Core.Path.{◌∙◌, ◌≡◌, refl, subst, sym}
 use native.Mathlib.Omega.{arith}
 use Rattle.arrivals.proofs.emit_each.Goals as goal
 
@@ -70,9 +69,9 @@ returns-in_err-emit_one c =
           let in-marks : first_mark (marks_of c.loop-i.rest) < length (marks_of c.loop-i.rest) = omega (arith, length_marks c.loop-i.rest, few, first, c.loop-i-test.true) in
           let in_l : first_mark (marks_of c.loop-i.rest) < length l = omega (arith, first, c.loop-i-test.true, read_length t a.list.now l h read.result read.ensures) in
           let st = c.combined-c.ensures t (get_or l c.loop-i.i no_occurrence) x (read_at t a.list.now l h read.result read.ensures _ _ c.place_at-at.ensures c.loop-i-test.true) q in
-          let then = c.in_err-emit_one.ensures.emits (globals_of a.notes.now) t r.so_far (combined_of t.clocks (get_or l c.loop-i.i no_occurrence) x) r.emits st in
+          let then = c.in_err-emit_one.ensures.emits (globals_of a.setting.now.notes.now) t r.so_far (combined_of t.clocks (get_or l c.loop-i.i no_occurrence) x) r.emits st in
           rw (p.1, p.2)
-          (emits_stopped t (length a.out.now) a.loggers.now a.place then refl (map (λ w. combined_of t.clocks w x) (marked l (set (marks_of c.loop-i.rest) (first_mark (marks_of c.loop-i.rest)) false)))
+          (emits_stopped t (length a.out.now) a.setting.now.loggers.now a.place then refl (map (λ w. combined_of t.clocks w x) (marked l (set (marks_of c.loop-i.rest) (first_mark (marks_of c.loop-i.rest)) false)))
           (each_turn _ (λ w. combined_of t.clocks w x) l (marks_of c.loop-i.rest) _ no_occurrence in_l in-marks refl r.so_far _ (rw (first, c.loop-i.invariant.1)) ∙ r.same));
       beyond = beyond_then c.loop-i.invariant.2 c.emit_one.ensures.beyond;
     }
@@ -103,8 +102,8 @@ loop-i-preserved c = let a = c.args in (
       let in_l : first_mark (marks_of c.loop-i.rest) < length l = omega (arith, first, c.loop-i-test.true, read_length t a.list.now l h read.result read.ensures) in
       let st = c.combined-c.ensures t (get_or l c.loop-i.i no_occurrence) x (read_at t a.list.now l h read.result read.ensures _ _ c.place_at-at.ensures c.loop-i-test.true) p in
       record {
-        so_far = emitted (length c.loop-i.out) a.loggers.now a.place r.so_far (combined_of t.clocks (get_or l c.loop-i.i no_occurrence) x);
-        emits = c.in_ok-emit_one.ensures.emits (globals_of a.notes.now) t r.so_far _ r.emits st;
+        so_far = emitted (length c.loop-i.out) a.setting.now.loggers.now a.place r.so_far (combined_of t.clocks (get_or l c.loop-i.i no_occurrence) x);
+        emits = c.in_ok-emit_one.ensures.emits (globals_of a.setting.now.notes.now) t r.so_far _ r.emits st;
         same = each_turn _ (λ w. combined_of t.clocks w x) l (marks_of c.loop-i.rest) _ no_occurrence in_l in-marks (marks_rest c.loop-i.rest) r.so_far _ (rw (first, c.loop-i.invariant.1)) ∙ r.same;
       },
 )
@@ -117,6 +116,6 @@ returns c = record {
   emits = (λ t l s x h m p.
       let r = c.loop-i.invariant.3 t l s x h m p in
       let past : length l ≤ first_mark (marks_of c.loop-i.rest) = omega (arith, read_length t c.args.list.now l h c.list_of-waiting.result c.list_of-waiting.ensures, c.loop-i.invariant.0, c.loop-i-test.false) in
-      subst (Emits t _ _ _ _) (sym (each_end _ (λ w. combined_of t.clocks w x) l (marks_of c.loop-i.rest) r.so_far past) ∙ r.same) r.emits);
+      subst (Emits t _ _ _) (sym (each_end _ (λ w. combined_of t.clocks w x) l (marks_of c.loop-i.rest) r.so_far past) ∙ r.same) r.emits);
   beyond = c.loop-i.invariant.2;
 }

@@ -13,7 +13,7 @@ returns-then-makes_each c =
     let yes = call in
     let row = yes.makes_each.ensures.0 yes.if-makes_each.true in
     record {
-      emits = (λ t l s x h m p. subst (Emits t _ _ _ _) (emits_by _ _ _ s _ _ each t.clocks _ x row refl) (call.emit_each.ensures.emits t l s x h m p));
+      emits = (λ t l s x h m p. subst (Emits t _ _ _) (emits_by _ _ _ s _ _ each t.clocks _ x row refl) (call.emit_each.ensures.emits t l s x h m p));
       beyond = call.emit_each.ensures.beyond;
     }
 
@@ -23,6 +23,6 @@ returns-else-makes_each c =
     let no = call in
     let row = no.makes_each.ensures.1 no.if-makes_each.false in
     record {
-      emits = (λ t l s x h m p. subst (Emits t _ _ _ _) (emits_by _ _ _ s _ _ together t.clocks _ x row refl) (call.emit_together.ensures.emits t l s x h m p));
+      emits = (λ t l s x h m p. subst (Emits t _ _ _) (emits_by _ _ _ s _ _ together t.clocks _ x row refl) (call.emit_together.ensures.emits t l s x h m p));
       beyond = call.emit_together.ensures.beyond;
     }

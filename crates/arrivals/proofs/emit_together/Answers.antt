@@ -29,7 +29,7 @@ returns-then-n-first c =
     let (one, fits) = start.requires in record {
       emits = (λ t l s x h m p.
           let none = together_none t.clocks x l (marks_of start.args.taken) _ _ first.first_marked-first.ensures (read_length t list l h count.list_of-waiting.result count.list_of-waiting.ensures) c.if-n-first.true in
-          subst (Emits t _ _ _ _) (emits_none _ _ _ s _ none) m);
+          subst (Emits t _ _ _) (emits_none _ _ _ s _ none) m);
       beyond = beyond_none fits.0 fits.1;
     }
 
@@ -52,7 +52,7 @@ returns c =
       emits = (λ t l s x h m p.
           let one = together_some t.clocks x l (marks_of start.args.taken) _ _ first.first_marked-first.ensures (read_length t list l h count.list_of-waiting.result count.list_of-waiting.ensures)
           (read-few t list l h count.list_of-waiting.result count.list_of-waiting.ensures) (length_marks start.args.taken) some.if-n-first.false in
-          subst (Emits t _ _ _ _) (emits_one _ _ _ s _ _ _ refl one)
-          (call.emit_one.ensures.emits (globals_of start.args.notes.now) t s (fold (combined_of t.clocks) (marked l (marks_of start.args.taken)) x) m (all.all_combined-all.ensures t l x h p)));
+          subst (Emits t _ _ _) (emits_one _ _ _ s _ _ _ refl one)
+          (call.emit_one.ensures.emits (globals_of start.args.setting.now.notes.now) t s (fold (combined_of t.clocks) (marked l (marks_of start.args.taken)) x) m (all.all_combined-all.ensures t l x h p)));
       beyond = call.emit_one.ensures.beyond;
     }

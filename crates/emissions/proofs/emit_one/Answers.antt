@@ -10,44 +10,43 @@ use Rattle.detections.proofs.Sizes.{beyond_finding}
 use Rattle.detections.proofs.Writing.{beyond_none}
 use Rattle.occurrences.specs.Packed.{occurrence_of}
 use Rattle.timestamps.specs.Notes.{ticks_of}
-use Rattle.emissions.specs.Emissions.{bytes_in, made_in}
 use Rattle.emissions.proofs.Emitting.{emits_ninth, emits_no_room, emits_go, has_room, no_room}
 use borrow.Author.Rules.{rules}
 use Rattle.emissions.proofs.emit_one.Goals as goal
 
-pub returns-then-n-ge8 : goal.returns-then-n-ge8
-returns-then-n-ge8 c =
-    let eight : length c.args.made.now ≡ 8 = search rules in
+pub returns-then-made-ge8 : goal.returns-then-made-ge8
+returns-then-made-ge8 c =
+    let eight : length c.args.made.now.row ≡ 8 = search rules in
     record {
-      emits = λ globals t s x h o. emits_ninth t _ _ h o eight (omega (arith, eight, c.if-n-ge8.true));
+      emits = λ globals t s x h o. emits_ninth t _ _ h o eight (omega (arith, eight, c.if-made-ge8.true));
       beyond = beyond_none c.requires.2.0 c.requires.2.1;
     }
 
 pub returns-then-not-fits : goal.returns-then-not-fits
 returns-then-not-fits c =
     let a = c.args in
-    let eight : length a.made.now ≡ 8 = search rules in
-    let below : made_in a.tally.now < 8 = omega (arith, eight, c.if-n-ge8.false) in
-    let size = no_room _ _ _ c.requires.2.0 (c.fits.ensures a.loggers.now a.place) (ap not c.if-not-fits.true) in
+    let eight : length a.made.now.row ≡ 8 = search rules in
+    let below : a.made.now.count < 8 = omega (arith, eight, c.if-made-ge8.false) in
+    let size = no_room _ _ _ c.requires.2.0 (c.fits.ensures a.setting.now.loggers.now a.place) (ap not c.if-not-fits.true) in
     record {
       emits = λ globals t s x h o. emits_no_room t _ _ h o eight below c.requires.2.0 size;
       beyond = beyond_none c.requires.2.0 c.requires.2.1;
     }
 
-pub write-next-requires : goal.write-next-requires
-write-next-requires c =
+pub write-made-requires : goal.write-made-requires
+write-made-requires c =
     let a = c.args in
-    (c.requires.0, c.requires.1, has_room _ _ _ c.requires.2.0 (c.fits.ensures a.loggers.now a.place) (ap not c.if-not-fits.false))
+    (c.requires.0, c.requires.1, has_room _ _ _ c.requires.2.0 (c.fits.ensures a.setting.now.loggers.now a.place) (ap not c.if-not-fits.false))
 
 pub returns : goal.returns
 returns c =
     let a = c.args in
-    let eight : length a.made.now ≡ 8 = search rules in
-    let below : made_in a.tally.now < 8 = omega (arith, eight, c.if-n-ge8.false) in
-    let size = has_room _ _ _ c.requires.2.0 (c.fits.ensures a.loggers.now a.place) (ap not c.if-not-fits.false) in
-    let w : Wrote a.out.now (bytes_in a.tally.now) (written_bytes (ticks_of a.notes.now) a.loggers.now a.place a.o.now) c.write-next.result c.write-next.new.out = c.write-next.ensures in
-    let found = occurrence_of (ticks_of a.notes.now) a.o.now in
+    let eight : length a.made.now.row ≡ 8 = search rules in
+    let below : a.made.now.count < 8 = omega (arith, eight, c.if-made-ge8.false) in
+    let size = has_room _ _ _ c.requires.2.0 (c.fits.ensures a.setting.now.loggers.now a.place) (ap not c.if-not-fits.false) in
+    let w : Wrote a.out.now a.made.now.bytes (written_bytes (ticks_of a.setting.now.notes.now) a.setting.now.loggers.now a.place a.o.now) c.write-made.result c.write-made.new.out = c.write-made.ensures in
+    let found = occurrence_of (ticks_of a.setting.now.notes.now) a.o.now in
     record {
       emits = λ globals t s x h o. emits_go t _ _ h o eight below c.requires.2.0 size w;
-      beyond = beyond_finding (finding_of a.loggers.now a.place found.latest found.events) size c.requires.2.1 w;
+      beyond = beyond_finding (finding_of a.setting.now.loggers.now a.place found.latest found.events) size c.requires.2.1 w;
     }

@@ -36,8 +36,8 @@ returns-in_err-emit_accumulated-clause-acts c =
     let own = mine-wait turn a.own a.other t x h halves in
     let early = c.before_arrival-earlier.ensures t _ _ own q in
     let then = c.in_err-emit_accumulated.ensures.emits t _ _ x.emit one.occurrence own (others-wait turn a.own a.other t x h halves) h.emit q early in
-    let s = setting_of (length a.out.now) t.clocks a.loggers.now in
-    subst (HoldsTurned t _ _ _ _ _ _)
+    let s = setting_of (length a.out.now) t.clocks a.setting.now.loggers.now in
+    subst (HoldsTurned t _ _ _ _ _)
     (ap (turned_of turn.input)
     (gathered_stopped s turn.place (row_of turn.context) (mine turn a.own a.other t x h halves) (others turn a.own a.other t x h halves) x.emit one _ _ _ chose.are chose.taken five (ap reached then.limit))
     ∙ arrives-is s node turn.place x one turn.input turn.action turn.context h.emit.limit i takes.action takes.context)
@@ -53,14 +53,14 @@ returns-clause-acts c =
     let early = c.before_arrival-earlier.ensures t _ _ own q in
     let those = others-wait turn a.own a.other t x h halves in
     let then = c.in_ok-emit_accumulated.ensures.emits t _ _ x.emit one.occurrence own those h.emit q early in
-    let s = setting_of (length a.out.now) t.clocks a.loggers.now in
+    let s = setting_of (length a.out.now) t.clocks a.setting.now.loggers.now in
     let gone = c.remove_from.ensures _ _ t _ those in
     let many = c.remove_from.auto.w in
     let still = mine-still turn a.own a.other t x h halves c.remove_from.new.w many _ gone in
     let both =
     own-then turn _ a.own a.other halves h.waits.inside _ (then-long turn a.own a.other t x h halves c.remove_from.new.w many) t _ _
     (then-held turn a.own a.other t x h halves c.remove_from.new.w many _ gone) _ _ (c.remove_from-2.ensures _ _ t _ still) c.remove_from-2.auto.w in
-    subst (HoldsTurned t _ _ _ _ _ _)
+    subst (HoldsTurned t _ _ _ _ _)
     (ap (turned_of turn.input)
     (gathered_gone s turn.place (row_of turn.context) (mine turn a.own a.other t x h halves) (others turn a.own a.other t x h halves) x.emit one _ _ _ chose.are chose.taken five (marks_of c.before_arrival-earlier.result) early
     (ap reached then.limit))

@@ -4,10 +4,9 @@ use Rattle.arrivals.proofs.Carried.{carried_nothing, carried_pass, carried_wait}
 use Rattle.arrivals.specs.Meetings.{setting_of}
 use Rattle.arrivals.specs.Views.{Spare}
 use Rattle.contexts.specs.Table.{row_of}
-use Rattle.detections.proofs.Writing.{beyond_none}
 use Rattle.occurrences.proofs.Packed.{stands-within}
 use Rattle.operators.proofs.Carried.{arrives-is}
-use Rattle.operators.proofs.Sides.{Held, appended_emits, appended-is, half_is, held_of, own_back, turned_of_lem}
+use Rattle.operators.proofs.Sides.{appended_emits, appended-is, half_is, held_of, own_back, turned_of_lem}
 use Rattle.operators.specs.Turns.{sides_of, turned_of}
 use Rattle.operators.specs.Views.{HoldsTurned}
 use Rattle.waiting_lists.specs.Lists.{Waits}
@@ -29,9 +28,9 @@ emit_one-requires c =
 pub returns-then-turn-eq-PASS-clause-acts : goal.returns-then-turn-eq-PASS-clause-acts
 returns-then-turn-eq-PASS-clause-acts c = λ t node x one takes i p h.
     let turn = c.args.turn in
-    let s = setting_of (length c.args.out.now) t.clocks c.args.loggers.now in
+    let s = setting_of (length c.args.out.now) t.clocks c.args.setting.now.loggers.now in
     let side = sides_of turn.input x in
-    subst (HoldsTurned t _ _ _ _ _ _)
+    subst (HoldsTurned t _ _ _ _ _)
     (ap (turned_of turn.input) (carried_pass s turn.place (row_of turn.context) side.own side.other x.emit one _ c.if-turn-eq-PASS.true)
     ∙ arrives-is s node turn.place x one turn.input turn.action turn.context h.emit.limit i takes.action takes.context)
     (turned_of_lem t turn.input turn.split _ _ _ (held_of t turn.input turn.split x h) (c.emit_one.ensures.emits _ t x.emit one.occurrence h.emit p))
@@ -54,7 +53,7 @@ pub returns-then-turn-eq-WAIT-clause-acts : goal.returns-then-turn-eq-WAIT-claus
 returns-then-turn-eq-WAIT-clause-acts c = λ t node x one takes i p h.
     let turn = c.args.turn in
     let lists = c.args.lists.now in
-    let s = setting_of (length c.args.out.now) t.clocks c.args.loggers.now in
+    let s = setting_of (length c.args.out.now) t.clocks c.args.setting.now.loggers.now in
     let side = held_of t turn.input turn.split x h in
     let own = c.part_of-own.result in
     let half = c.part_of-own.ensures in
@@ -62,7 +61,7 @@ returns-then-turn-eq-WAIT-clause-acts c = λ t node x one takes i p h.
     let w = c.wait.ensures _ _ t sides.own one.occurrence (subst (λ (k : List (List ℕ)). Waits t k sides.own) (sym (half_is _ _ lists own h.waits.inside half)) side.own-waits) p in
     let long = length-take-le (own.to - own.from) (drop own.from lists) (omega (arith, length-drop own.from lists, half.up, half.within)) in
     let then = own_back t turn.input turn.split lists c.wait.new.list sides.own sides.other side own.from own.to (c.wait.auto.list ∙ long) half.from half.to (appended_to sides.own one.occurrence) w.0 in
-    subst (HoldsTurned t _ _ _ _ _ _)
+    subst (HoldsTurned t _ _ _ _ _)
     (ap (turned_of turn.input)
     (appended-is sides.own sides.other x.emit one.occurrence ∙ carried_wait s turn.place (row_of turn.context) sides.own sides.other x.emit one _ c.if-turn-eq-WAIT.true h.emit.limit)
     ∙ arrives-is s node turn.place x one turn.input turn.action turn.context h.emit.limit i takes.action takes.context)
@@ -72,9 +71,9 @@ returns-then-turn-eq-WAIT-clause-acts c = λ t node x one takes i p h.
 pub returns-then-turn-ge-NOTHING-clause-acts : goal.returns-then-turn-ge-NOTHING-clause-acts
 returns-then-turn-ge-NOTHING-clause-acts c = λ t node x one takes i p h.
     let turn = c.args.turn in
-    let s = setting_of (length c.args.out.now) t.clocks c.args.loggers.now in
+    let s = setting_of (length c.args.out.now) t.clocks c.args.setting.now.loggers.now in
     let side = sides_of turn.input x in
-    subst (HoldsTurned t _ _ _ _ _ _)
+    subst (HoldsTurned t _ _ _ _ _)
     (ap (turned_of turn.input) (carried_nothing s turn.place (row_of turn.context) side.own side.other x.emit one _ c.if-turn-ge-NOTHING.true h.emit.limit)
     ∙ arrives-is s node turn.place x one turn.input turn.action turn.context h.emit.limit i takes.action takes.context)
     (turned_of_lem t turn.input turn.split _ _ _ (held_of t turn.input turn.split x h) h.emit)

@@ -4,8 +4,8 @@ use Rattle.arrivals.specs.Meetings.{setting_of}
 use Rattle.contexts.specs.Table.{row_of}
 use Rattle.emissions.specs.Emissions.{reached}
 use Rattle.operators.proofs.Carried.{arrives-is, waits_may}
-use Rattle.operators.proofs.Halves.{held, mine, mine-still, mine-wait, others, others-wait, own-long, own_part_lem, own-then, then-held, then-long}
-use Rattle.operators.proofs.Sides.{Held, appended_emits, appended-is, turned_of_lem}
+use Rattle.operators.proofs.Halves.{held, mine, mine-still, others, others-wait, own-long, own_part_lem, own-then, then-held, then-long}
+use Rattle.operators.proofs.Sides.{appended_emits, appended-is, turned_of_lem}
 use Rattle.operators.proofs.Spares.{spare_on}
 use Rattle.operators.specs.Turns.{turned_of}
 use Rattle.operators.specs.Views.{HoldsTurned}
@@ -33,8 +33,8 @@ returns-in_err-emit_made-clause-acts c =
     let p = err_from_is_err_and c.from_residual.result c.from_residual.ensures.1 in
     rw (p.1, p.2) (λ t node x one looks keeps apart takes i q h chose.
     let then = c.in_err-emit_made.ensures.emits t _ x.emit one.occurrence (others-wait turn a.own a.other t x h halves) h.emit q in
-    let s = setting_of (length a.out.now) t.clocks a.loggers.now in
-    subst (HoldsTurned t _ _ _ _ _ _)
+    let s = setting_of (length a.out.now) t.clocks a.setting.now.loggers.now in
+    subst (HoldsTurned t _ _ _ _ _)
     (ap (turned_of turn.input)
     (row_stopped s turn.place (row_of turn.context) (mine turn a.own a.other t x h halves) (others turn a.own a.other t x h halves) x.emit one _ _ _ chose.are chose.taken looks keeps apart (ap reached then.limit))
     ∙ arrives-is s node turn.place x one turn.input turn.action turn.context h.emit.limit i takes.action takes.context)
@@ -49,9 +49,9 @@ returns-then-not-waits-clause-acts c =
     λ t node x one looks keeps apart takes i q h chose.
     let those = others-wait turn a.own a.other t x h halves in
     let then = c.in_ok-emit_made.ensures.emits t _ x.emit one.occurrence those h.emit q in
-    let s = setting_of (length a.out.now) t.clocks a.loggers.now in
+    let s = setting_of (length a.out.now) t.clocks a.setting.now.loggers.now in
     let less = then-held turn a.own a.other t x h halves c.remove_from.new.w c.remove_from.auto.w _ (c.remove_from.ensures _ _ t _ those) in
-    subst (HoldsTurned t _ _ _ _ _ _)
+    subst (HoldsTurned t _ _ _ _ _)
     (ap (turned_of turn.input)
     (row_gone s turn.place (row_of turn.context) (mine turn a.own a.other t x h halves) (others turn a.own a.other t x h halves) x.emit one _ _ _ chose.are chose.taken looks keeps apart (marks_of a.choice.removed) chose.removed
     (ap reached then.limit) (sym c.waits.ensures ∙ c.if-not-waits.true))
@@ -84,14 +84,14 @@ returns-clause-acts c =
     λ t node x one looks keeps apart takes i q h chose.
     let those = others-wait turn a.own a.other t x h halves in
     let then = c.in_ok-emit_made.ensures.emits t _ x.emit one.occurrence those h.emit q in
-    let s = setting_of (length a.out.now) t.clocks a.loggers.now in
+    let s = setting_of (length a.out.now) t.clocks a.setting.now.loggers.now in
     let gone = c.remove_from.ensures _ _ t _ those in
     let many = c.remove_from.auto.w in
     let w = c.wait.ensures _ _ t _ one.occurrence (mine-still turn a.own a.other t x h halves c.remove_from.new.w many _ gone) q in
     let more =
     own-then turn _ a.own a.other halves h.waits.inside _ (then-long turn a.own a.other t x h halves c.remove_from.new.w many) t _ _
     (then-held turn a.own a.other t x h halves c.remove_from.new.w many _ gone) _ (appended_to (mine turn a.own a.other t x h halves) one.occurrence) w.0 c.wait.auto.list in
-    subst (HoldsTurned t _ _ _ _ _ _)
+    subst (HoldsTurned t _ _ _ _ _)
     (ap (turned_of turn.input)
     (appended-is (mine turn a.own a.other t x h halves) (unmarked (others turn a.own a.other t x h halves) (marks_of a.choice.removed)) _ one.occurrence
     ∙ row_joins s turn.place (row_of turn.context) (mine turn a.own a.other t x h halves) (others turn a.own a.other t x h halves) x.emit one _ _ _ chose.are chose.taken looks keeps apart (marks_of a.choice.removed) chose.removed

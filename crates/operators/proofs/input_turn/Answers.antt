@@ -18,7 +18,7 @@ use native.Mathlib.Omega.{arith}
 use Rattle.operators.proofs.input_turn.Goals as goal
 
 pub loop-o-init : goal.loop-o-init
-loop-o-init c = (beyond_none c.requires.1.0 c.requires.1.1, λ t node x l event takes g h. subst (HoldsTurned t None _ _ _ _ _) (sym (fold-none _ x)) h)
+loop-o-init c = (beyond_none c.requires.1.0 c.requires.1.1, λ t node x l event takes g h. subst (HoldsTurned t None _ _ _ _) (sym (fold-none _ x)) h)
 
 pub act-requires : goal.act-requires
 act-requires c =
@@ -27,7 +27,7 @@ act-requires c =
     let ((t, node, x, l, takes, h, g), fits, spares) = c.requires in
     let i = c.loop-o.o-index in
     let was = c.loop-o.invariant.1 t node x l 0 takes g h in
-    let few = first-few (setting_of (length a.out.now) t.clocks a.loggers.now) node turn.place turn.input 0 l i x in
+    let few = first-few (setting_of (length a.out.now) t.clocks a.setting.now.loggers.now) node turn.place turn.input 0 l i x in
     let before = waits-length t _ _ (held_of t turn.input turn.split x h).own-waits in
     let after = waits-length t _ _ (held_of t turn.input turn.split _ was).own-waits in (
       (t, _, (arrival-at 0 turn.input l i).occurrence, was, stands_at 0 turn.input l i t a.arrivals.now g c.loop-o-test.true),
@@ -47,9 +47,9 @@ returns-in_err-act c =
           let was = c.loop-o.invariant.1 t node x l event takes g h in
           let in_l : i < length l = omega (arith, c.loop-o-test.true, stand-length t a.arrivals.now l g) in
           let then = c.in_err-act.ensures.acts t node _ (arrival-at event turn.input l i) takes (by_input event turn.input l i in_l) (stands_at event turn.input l i t a.arrivals.now g c.loop-o-test.true) was in
-          let s = setting_of (length a.out.now) t.clocks a.loggers.now in
+          let s = setting_of (length a.out.now) t.clocks a.setting.now.loggers.now in
           let more = rw (c.loop-o.auto.out, one_more event turn.input l i s node turn.place x in_l) at then in
-          subst (HoldsTurned t _ _ _ _ _ _) (turn_stops s node _ event turn.input l (i + 1) x _ refl (ap reached more.emit.limit)) more);
+          subst (HoldsTurned t _ _ _ _ _) (turn_stops s node _ event turn.input l (i + 1) x _ refl (ap reached more.emit.limit)) more);
       beyond = beyond_then c.loop-o.invariant.0 c.act.ensures.beyond;
     }
 
@@ -63,14 +63,14 @@ loop-o-preserved c =
           let was = c.loop-o.invariant.1 t node x l event takes g h in
           let in_l : i < length l = omega (arith, c.loop-o-test.true, stand-length t a.arrivals.now l g) in
           let then = c.in_ok-act.ensures.acts t node _ (arrival-at event turn.input l i) takes (by_input event turn.input l i in_l) (stands_at event turn.input l i t a.arrivals.now g c.loop-o-test.true) was in
-          let s = setting_of (length a.out.now) t.clocks a.loggers.now in
+          let s = setting_of (length a.out.now) t.clocks a.setting.now.loggers.now in
           rw (c.loop-o.auto.out, one_more event turn.input l i s node turn.place x in_l) at then,
     )
 
 pub returns : goal.returns
 returns c = record {
   turns = λ t node x l event takes g h.
-      subst (HoldsTurned t None _ _ _ _ _) (turn_ends _ node _ event c.args.turn.input l c.loop-o.o-index x (omega (arith, c.loop-o-test.false, stand-length t c.args.arrivals.now l g)))
+      subst (HoldsTurned t None _ _ _ _) (turn_ends _ node _ event c.args.turn.input l c.loop-o.o-index x (omega (arith, c.loop-o-test.false, stand-length t c.args.arrivals.now l g)))
       (c.loop-o.invariant.1 t node x l event takes g h);
   beyond = c.loop-o.invariant.0;
 }

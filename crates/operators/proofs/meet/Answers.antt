@@ -3,7 +3,6 @@ use Rattle.arrivals.proofs.Actions.{looked_candidates, looked_deletes}
 use Rattle.arrivals.proofs.Carried.{carried_delete}
 use Rattle.arrivals.specs.Meetings.{setting_of}
 use Rattle.contexts.specs.Table.{row_of}
-use Rattle.detections.proofs.Writing.{beyond_none}
 use Rattle.operators.proofs.Carried.{arrives-is}
 use Rattle.operators.proofs.Halves.{mine, mine-wait, others, others-wait, then-held}
 use Rattle.operators.proofs.Sides.{turned_of_lem}
@@ -28,9 +27,9 @@ returns-then-turn-eq-DELETE-clause-acts c =
     let own = mine-wait turn a.own a.other t x h halves in
     let those = others-wait turn a.own a.other t x h halves in
     let found = c.candidates_of-candidates.ensures t _ _ one.occurrence own those q looks in
-    let s = setting_of (length a.out.now) t.clocks a.loggers.now in
+    let s = setting_of (length a.out.now) t.clocks a.setting.now.loggers.now in
     let less = then-held turn a.own a.other t x h halves c.remove_from.new.w c.remove_from.auto.w _ (c.remove_from.ensures _ _ t _ those) in
-    subst (HoldsTurned t _ _ _ _ _ _)
+    subst (HoldsTurned t _ _ _ _ _)
     (ap (turned_of turn.input)
     (carried_delete s turn.place (row_of turn.context) (mine turn a.own a.other t x h halves) (others turn a.own a.other t x h halves) x.emit one turn.action c.if-turn-eq-DELETE.true h.emit.limit _
     (found ∙ looked_deletes turn.action t.clocks (mine turn a.own a.other t x h halves) (others turn a.own a.other t x h halves) one.occurrence c.if-turn-eq-DELETE.true))
