@@ -134,13 +134,9 @@ pub fn emit_made(
         (findings_in tally.new) (bytes_in tally.new) }
 {
     if contexts::makes_each(context) {
-        emit_each(
-            tally, made, list, taken, o, place, notes, loggers, out,
-        )
+        emit_each(tally, made, list, taken, o, place, notes, loggers, out)
     } else {
-        emit_together(
-            tally, made, list, taken, o, place, notes, loggers, out,
-        )
+        emit_together(tally, made, list, taken, o, place, notes, loggers, out)
     }
 }
 
@@ -253,12 +249,7 @@ pub fn candidates_of(
 }
 
 // What a context chooses of the candidates; nothing where there are none.
-pub fn choice_of(
-    context: u64,
-    list: &[Packed],
-    candidates: u64,
-    notes: &[Note],
-) -> Choice
+pub fn choice_of(context: u64, list: &[Packed], candidates: u64, notes: &[Note]) -> Choice
     requires { Known notes.now list.now }
     ensures { (t : NotesOf notes.now) (l : List Occurrence) → Waits t list.now l
         → (marks_of result.taken ≡ (chosen (row_of context) t.clocks l (marks_of candidates)).taken)

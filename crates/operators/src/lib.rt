@@ -202,8 +202,7 @@ fn carry_out(
 {
     if turn.action == ACCUMULATE {
         return accumulate(
-            turn, candidates, choice, own, other, lists, tally, made, o, notes, loggers,
-            out,
+            turn, candidates, choice, own, other, lists, tally, made, o, notes, loggers, out,
         );
     }
     by_row(
@@ -287,9 +286,7 @@ fn act(
         return Ok(());
     }
     let other = part_of(!is_left, turn.split, end);
-    meet(
-        turn, own, other, lists, tally, made, o, notes, loggers, out,
-    )
+    meet(turn, own, other, lists, tally, made, o, notes, loggers, out)
 }
 
 // The arrivals of one input, in the order made.
