@@ -1,7 +1,18 @@
 -- The rows of the table, and what other numbers are read as.
 use Rattle.std.proofs.Common.{◌≡◌, ℕ, ◌-◌, ◌<◌, ◌≤◌, [], ◌∷◌, map, sym, refl, arith}
 use lib.ListN.{get_or-eq_default}
-use Rattle.contexts.specs.Table.{recent, table, row_of}
+use Rattle.contexts.specs.declared.Taken.TheVariants.{Latest, Earliest, Every}
+use Rattle.contexts.specs.declared.Found.TheVariants.{Each, Together}
+use Rattle.contexts.specs.declared.Removed.TheVariants.{Untaken, Taken as TheTaken, All}
+use Rattle.contexts.specs.declared.Afterwards.TheVariants.{Joins, Consumed}
+use Rattle.contexts.specs.Table.{Afterwards, Context, Findings, Removed, Taken, recent, row_of, table}
+
+-- the rows of the code's table, by the code's words, say what document 01's rows say
+abbrev context : Taken → Findings → Removed → Afterwards → Context
+context t f r a = record { takes = t; finds = f; removes = r; afterwards = a }
+
+pub rows_say : (context Latest Each Untaken Joins ∷ context Earliest Each TheTaken Consumed ∷ context Every Each All Consumed ∷ context Every Together All Consumed ∷ []) ≡ table
+rows_say = refl
 
 -- contexts 1 to 4 are the four rows, in order
 pub contexts_are : map row_of (1 ∷ 2 ∷ 3 ∷ 4 ∷ []) ≡ table

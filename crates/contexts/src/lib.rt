@@ -316,14 +316,7 @@ fn barred(
     for j in 0..waiting.len {
         let place = waiting_lists::place_at(waiting, j);
         if is_other(candidates, i, j)
-            && bars(
-                rule,
-                lows[i],
-                &list[own],
-                lows[j],
-                &list[place],
-                notes,
-            )
+            && bars(rule, lows[i], &list[own], lows[j], &list[place], notes)
         {
             return true;
         }
@@ -345,8 +338,7 @@ fn is_taken(
         → Waits t list.now l → Lows notes.now list.now (length l) lows.now
         → result ≡ (slice_index_or (marks_of candidates) i false && takes rule t.clocks (marked l (marks_of candidates)) (slice_index_or l i no_occurrence)) }
 {
-    waiting_lists::is_marked(candidates, i)
-        && !barred(rule, i, list, lows, candidates, notes)
+    waiting_lists::is_marked(candidates, i) && !barred(rule, i, list, lows, candidates, notes)
 }
 
 // Whether no more than one is marked.
@@ -389,12 +381,7 @@ fn removed_by(rule: Removed, candidates: u64, taken: u64) -> u64
 }
 
 // What a context takes and removes of the candidates of a waiting list.
-pub fn choose(
-    context: u64,
-    list: &[Packed],
-    candidates: u64,
-    notes: &[Note],
-) -> Choice
+pub fn choose(context: u64, list: &[Packed], candidates: u64, notes: &[Note]) -> Choice
     requires { Known notes.now list.now }
     ensures { (t : NotesOf notes.now) (l : List Occurrence) → Waits t list.now l
         → (marks_of result.taken ≡ (chosen (row_of context) t.clocks l (marks_of candidates)).taken)
@@ -423,12 +410,7 @@ pub fn joins_afterwards(context: u64) -> bool
 }
 
 // The arrival combined with all taken, in waiting order.
-pub fn all_combined(
-    list: &[Packed],
-    taken: u64,
-    o: &Packed,
-    notes: &[Note],
-) -> Packed
+pub fn all_combined(list: &[Packed], taken: u64, o: &Packed, notes: &[Note]) -> Packed
     requires { Arrives notes.now list.now o.now }
     ensures { (t : NotesOf notes.now) (l : List Occurrence) (x : Occurrence)
         → Waits t list.now l → Stands t o.now x
@@ -474,13 +456,7 @@ fn some_before(list: &[Packed], marks: u64, middle: &Packed, notes: &[Note]) -> 
 }
 
 // Of the middles before the arrival, those after one of the lefts marked.
-fn between(
-    lefts: &[Packed],
-    marks: u64,
-    middles: &[Packed],
-    earlier: u64,
-    notes: &[Note],
-) -> u64
+fn between(lefts: &[Packed], marks: u64, middles: &[Packed], earlier: u64, notes: &[Note]) -> u64
     requires { KnownBoth notes.now lefts.now middles.now }
     ensures { (t : NotesOf notes.now) (k l : List Occurrence)
         → Waits t lefts.now k → Waits t middles.now l

@@ -188,11 +188,26 @@ fn arrive(rt: &impl Print, operator: Operator, context: u64, name: &str) -> io::
     let mut list = [[0u64; 3]; 17];
     let notes = [
         Note { tick: 0, global: 0 },
-        Note { tick: 81, global: 9 },
-        Note { tick: 96, global: 10 },
-        Note { tick: 121, global: 13 },
-        Note { tick: 101, global: 11 },
-        Note { tick: 301, global: 31 },
+        Note {
+            tick: 81,
+            global: 9,
+        },
+        Note {
+            tick: 96,
+            global: 10,
+        },
+        Note {
+            tick: 121,
+            global: 13,
+        },
+        Note {
+            tick: 101,
+            global: 11,
+        },
+        Note {
+            tick: 301,
+            global: 31,
+        },
     ];
     wait_four(&mut list);
     let o = occurrences::of_event(2, 2);

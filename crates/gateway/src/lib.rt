@@ -15,8 +15,8 @@ use detections::LoggerNumbers;
 use passages::Places;
 use plans::{Kinds, Loggers, Nodes};
 use slots::{KindPlaces, Seats, SlotTakers};
-use working::Answer;
 use timestamps::Note;
+use working::Answer;
 
 // A file is turned back: no finding, no byte.
 fn turned_back(number: u64, place: usize) -> Answer
@@ -235,15 +235,7 @@ fn work_with<const EVENTS: usize>(
         passage.now output.old result output.new }
 {
     let mut notes = [Note { tick: 0, global: 0 }; EVENTS];
-    work_under(
-        read,
-        loggers,
-        kinds,
-        nodes,
-        passage,
-        output,
-        &mut notes,
-    )
+    work_under(read, loggers, kinds, nodes, passage, output, &mut notes)
 }
 
 // The same with tables as long as the passage has use for: of fewer bytes than 194 there are at most 15 events, of fewer than 770 at most 63.

@@ -281,12 +281,7 @@ fn before(low: GlobalTick, a: &Packed, b: &Packed, notes: &[Note]) -> bool
 }
 
 // Whether the first one's composite timestamp is weakly before the second's, place by place of the first; with the lowest global tick of the second.
-fn weakly_by_place(
-    a: &Packed,
-    first: GlobalTick,
-    b: &Packed,
-    notes: &[Note],
-) -> bool
+fn weakly_by_place(a: &Packed, first: GlobalTick, b: &Packed, notes: &[Note]) -> bool
     requires { Within notes.now a.now × Within notes.now b.now }
     ensures { (t : NotesOf notes.now) (x y : Occurrence)
         → LowestOf notes.now b.now first.0 → Stands t a.now x → Stands t b.now y
@@ -328,13 +323,7 @@ fn order_by_place(
 }
 
 // The word for how the first one's composite timestamp stands to the second's; beside each its lowest global tick. Where these are clearly apart they decide.
-pub fn order(
-    low: GlobalTick,
-    a: &Packed,
-    first: GlobalTick,
-    b: &Packed,
-    notes: &[Note],
-) -> Order
+pub fn order(low: GlobalTick, a: &Packed, first: GlobalTick, b: &Packed, notes: &[Note]) -> Order
     requires { Within notes.now a.now × Within notes.now b.now }
     ensures { (t : NotesOf notes.now) (x y : Occurrence)
         → LowestOf notes.now a.now low.0 → LowestOf notes.now b.now first.0
