@@ -23,7 +23,7 @@ fn turned_back(number: u64, place: usize) -> Answer
     ensures { (out : List ℕ) → Answers (turned_back number place) out result out }
 {
     Answer {
-        number: number,
+        number,
         place: place as u64,
         findings: 0,
         bytes: 0,

@@ -148,6 +148,7 @@ fn fill(page: &mut [u8], output: &[u8], from: usize, count: u64) -> Filled
 fn print(rt: &impl Print, output: &[u8], answer: Answer) -> io::Result<()> {
     let mut page = [0u8; 16384];
     let mut filled = fill(&mut page, output, 0, answer.findings);
+    // No `for`: how many pages there are shows as they are filled.
     while filled.left > 0 {
         rt.write_all(&page[..filled.len])?;
         filled = fill(&mut page, output, filled.next, filled.left);

@@ -78,7 +78,7 @@ impl Timestamp {
 
     pub const MAX_RATIO: u64 = 1000000;
 
-    // What stands where there is no timestamp.
+    // What stands where there is no timestamp: no Option, since the C interface shows it.
     pub fn blank() -> Timestamp
         ensures { result ≡ blank }
     {
