@@ -10,6 +10,7 @@ use Rattle.forms.specs.Bytes.{Bytes}
 use Rattle.plans.specs.Layout.{Plan}
 use Rattle.plans.specs.Reader.{PlanAnswer, read_plan}
 use Rattle.plans.specs.Views.{Slotted, answer_of}
+use Rattle.plans.specs.declared.NodeRow.{NodeRow}
 use Rattle.plans.specs.declared.PlanRead.{PlanRead}
 use Rattle.plans.proofs.Theorems.{accepted_ok}
 use Rattle.passages.specs.Events.{passage_events}
@@ -27,7 +28,7 @@ use Rattle.gateway.specs.Steps.{PlanHeld}
 use Rattle.working.specs.Working.{end_of, plan_worked, turned_back}
 
 -- what is known of a plan that was read
-pub read_held : (b : List ℕ) (r : PlanRead) (loggers kinds : List ℕ) (nodes : List (List ℕ)) → Bytes b → answer_of (Ok r) loggers kinds nodes ≡ read_plan b
+pub read_held : (b : List ℕ) (r : PlanRead) (loggers kinds : List ℕ) (nodes : List NodeRow) → Bytes b → answer_of (Ok r) loggers kinds nodes ≡ read_plan b
     → r.logger_count ≤ 8 → r.kind_count ≤ 32 → r.node_count ≤ 16 → Slotted r.node_count nodes → PlanHeld r loggers kinds nodes
 read_held b r loggers kinds nodes B e l k n s =
     let ok = accepted_ok b B (sym (ap (λ (a : PlanAnswer). a.number) e)) in

@@ -13,7 +13,7 @@ ghost use Rattle.gateway.specs.Steps.{PlanHeld, RunsUnder, WorkedUnder};
 
 use detections::LoggerNumbers;
 use passages::Places;
-use plans::{Kinds, Loggers, Nodes};
+use plans::{Kinds, Loggers, NodeRow, Nodes};
 use slots::{KindPlaces, Seats, SlotTakers};
 use timestamps::Note;
 use working::Answer;
@@ -268,7 +268,7 @@ pub fn work(plan: &[u8], passage: &[u8], output: &mut [u8]) -> Answer
 {
     let mut loggers = [0u16; 8];
     let mut kinds = [0u16; 32];
-    let mut nodes = [[0u16; 5]; 16];
+    let mut nodes = [NodeRow::default(); 16];
     match plans::read_plan(plan, &mut loggers, &mut kinds, &mut nodes) {
         Ok(read) => work_in_tables(read, &loggers, &kinds, &nodes, passage, output),
         Err(refusal) => turned_back(refusal.fault.number(), refusal.place),

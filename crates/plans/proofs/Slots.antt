@@ -1,6 +1,6 @@
 -- Slots: what the code puts in a node's row gives the node back, if it has no fault.
 use mathlib.Core.Bool.{true, false, true≢false}
-use mathlib.Core.List.{List, []}
+use mathlib.Core.List.{List}
 use mathlib.Core.Logic.{⊎_elim}
 use mathlib.Core.Path.{◌≡◌, refl, sym, ◌∙◌}
 use Prim.Native.Nat.{ℕ, zero, suc, ◌+◌, ◌-◌, ◌≤◌, ◌<◌}
@@ -10,8 +10,9 @@ use borrow.Author.Tests.{eq-eqb, ne_eqb, le-leb, lt-leb, le-ltb, lt-ltb}
 use lib.ListN.{get_or, length, set}
 use lib.Seq.{get_or-set_other, get_or-set_same}
 use Rattle.plans.specs.Reader.{is_input, node_fault}
-use Rattle.plans.specs.Views.{RowOf, SlotOf, Slotted, SlotsBelow, input_from, node_of, slot_at}
+use Rattle.plans.specs.Views.{RowOf, SlotOf, Slotted, SlotsBelow, input_from, no_row, node_of, slot_at}
 use Rattle.plans.specs.declared.Node.{Node}
+use Rattle.plans.specs.declared.NodeRow.{NodeRow}
 use Rattle.plans.proofs.Limits.{node_ok, ok_input}
 
 -- ---- the slot of an input, by the code's cases
@@ -66,14 +67,14 @@ module _ (kinds place input slot : ℕ) (s : SlotOf kinds place input slot) wher
   ]
 
 -- ---- the row of a node
-module _ (kinds place : ℕ) (n : Node) (row : List ℕ) (r : RowOf kinds place n row) where
+module _ (kinds place : ℕ) (n : Node) (row : NodeRow) (r : RowOf kinds place n row) where
   pub row_gives : kinds ≤ 32 → place < 16 → node_fault kinds place n ≡ 0 → node_of row ≡ n
   row_gives few early e =
       let k = node_ok kinds place n e in
-      let left = slot_gives kinds place n.left (get_or row 2 0) r.left (ok_input kinds place n.left k.left) in
-      let middle = slot_gives kinds place n.middle (get_or row 3 0) r.middle (ok_input kinds place n.middle k.middle) in
-      let third = ⊎_elim (λ t. slot-none kinds place n.third (get_or row 4 0) r.third few early t.1)
-      (λ t. slot_gives kinds place n.third (get_or row 4 0) r.third (ok_input kinds place n.third t.1)) k.third in
+      let left = slot_gives kinds place n.left (get_or row.slots 0 0) r.left (ok_input kinds place n.left k.left) in
+      let middle = slot_gives kinds place n.middle (get_or row.slots 1 0) r.middle (ok_input kinds place n.middle k.middle) in
+      let third = ⊎_elim (λ t. slot-none kinds place n.third (get_or row.slots 2 0) r.third few early t.1)
+      (λ t. slot_gives kinds place n.third (get_or row.slots 2 0) r.third (ok_input kinds place n.third t.1)) k.third in
       rw (r.operator, r.context, left, middle, third)
 
   pub row_below : SlotsBelow place row
@@ -83,19 +84,19 @@ module _ (kinds place : ℕ) (n : Node) (row : List ℕ) (r : RowOf kinds place 
   row_below (suc (suc (suc i))) h = absurd (omega arith)
 
 -- ---- the first rows
-pub slotted-none : (n : ℕ) (rows : List (List ℕ)) → n ≡ 0 → Slotted n rows
+pub slotted-none : (n : ℕ) (rows : List NodeRow) → n ≡ 0 → Slotted n rows
 unfolding Slotted
 slotted-none n rows e k h = absurd (omega arith)
 
 -- with one row more
-pub slotted-more : (i : ℕ) (rows : List (List ℕ)) (row : List ℕ) → i < length rows → Slotted i rows → SlotsBelow i row → Slotted (i + 1) (set rows i row)
+pub slotted-more : (i : ℕ) (rows : List NodeRow) (row : NodeRow) → i < length rows → Slotted i rows → SlotsBelow i row → Slotted (i + 1) (set rows i row)
 unfolding Slotted
 slotted-more i rows row fits before now k h = elim (ℕ_discrete k i) [
-  | yes e ↦ rw (e, get_or-set_same rows i row [] fits) now
-  | no d ↦ rw (get_or-set_other rows i k row [] d) (before k (omega arith))
+  | yes e ↦ rw (e, get_or-set_same rows i row no_row fits) now
+  | no d ↦ rw (get_or-set_other rows i k row no_row d) (before k (omega arith))
 ]
 
-pub slotted-at : (n : ℕ) (rows : List (List ℕ)) → Slotted n rows → (k : ℕ) → k < n → SlotsBelow k (get_or rows k [])
+pub slotted-at : (n : ℕ) (rows : List NodeRow) → Slotted n rows → (k : ℕ) → k < n → SlotsBelow k (get_or rows k no_row)
 unfolding Slotted
 slotted-at n rows s = s
 

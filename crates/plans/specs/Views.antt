@@ -6,6 +6,7 @@ use Rattle.plans.specs.Faults.{number_of}
 use Rattle.plans.specs.Layout.{Plan}
 use Rattle.plans.specs.Reader.{PlanAnswer, accepted, is_input, refused}
 use Rattle.plans.specs.declared.Node.{Node}
+use Rattle.plans.specs.declared.NodeRow.{NodeRow}
 use Rattle.plans.specs.declared.PlanFault.{PlanFault}
 use Rattle.plans.specs.declared.PlanRead.{PlanRead}
 use Rattle.plans.specs.declared.PlanRefusal.{PlanRefusal}
@@ -26,40 +27,44 @@ pub record SlotOf (kinds place input slot : ℕ) : Type 0 where
   pub below : slot < 34 + place
 
 -- ---- nodes
--- a node's entry as the code keeps it: operator, context, and the slots of its left, middle and third input
-abbrev pub node_of : List ℕ → Node
+-- a node from the row that the code keeps: it has the slots of its left, middle and third input
+abbrev pub node_of : NodeRow → Node
 node_of row =
     record {
-      operator = get_or row 0 0;
-      context = get_or row 1 0;
-      left = input_from (get_or row 2 0);
-      middle = input_from (get_or row 3 0);
-      third = input_from (get_or row 4 0);
+      operator = row.operator;
+      context = row.context;
+      left = input_from (get_or row.slots 0 0);
+      middle = input_from (get_or row.slots 1 0);
+      third = input_from (get_or row.slots 2 0);
     }
 
+-- stands for a row where there is none
+abbrev pub no_row : NodeRow
+no_row = record { operator = 0; context = 0; slots = [] }
+
 -- a row that is filled from a node at a place, before the node is judged
-pub record RowOf (kinds place : ℕ) (n : Node) (row : List ℕ) : Type 0 where
-  pub operator : get_or row 0 0 ≡ n.operator
-  pub context : get_or row 1 0 ≡ n.context
-  pub left : SlotOf kinds place n.left (get_or row 2 0)
-  pub middle : SlotOf kinds place n.middle (get_or row 3 0)
-  pub third : SlotOf kinds place n.third (get_or row 4 0)
+pub record RowOf (kinds place : ℕ) (n : Node) (row : NodeRow) : Type 0 where
+  pub operator : row.operator ≡ n.operator
+  pub context : row.context ≡ n.context
+  pub left : SlotOf kinds place n.left (get_or row.slots 0 0)
+  pub middle : SlotOf kinds place n.middle (get_or row.slots 1 0)
+  pub third : SlotOf kinds place n.third (get_or row.slots 2 0)
 
 -- the slots in the row of node k are kinds' or earlier nodes', or 33
-abbrev pub SlotsBelow : ℕ → List ℕ → Type 0
-SlotsBelow k row = (i : ℕ) → i < 3 → get_or row (2 + i) 0 < 34 + k
+abbrev pub SlotsBelow : ℕ → NodeRow → Type 0
+SlotsBelow k row = (i : ℕ) → i < 3 → get_or row.slots i 0 < 34 + k
 
 -- the first n rows are so
-unfoldable pub Slotted : ℕ → List (List ℕ) → Type 0
-Slotted n rows = (k : ℕ) → k < n → SlotsBelow k (get_or rows k [])
+unfoldable pub Slotted : ℕ → List NodeRow → Type 0
+Slotted n rows = (k : ℕ) → k < n → SlotsBelow k (get_or rows k no_row)
 
 -- ---- plans
 -- the plan that is held in lists
-abbrev pub plan_of : ℕ → (loggers kinds : List ℕ) → (nodes : List (List ℕ)) → Plan
+abbrev pub plan_of : ℕ → (loggers kinds : List ℕ) → (nodes : List NodeRow) → Plan
 plan_of ratio loggers kinds nodes = record { ratio = ratio; loggers = loggers; kinds = kinds; nodes = map node_of nodes }
 
 -- with as many of each as are counted
-abbrev pub answer_of : Result PlanRead PlanRefusal → (loggers kinds : List ℕ) → (nodes : List (List ℕ)) → PlanAnswer
+abbrev pub answer_of : Result PlanRead PlanRefusal → (loggers kinds : List ℕ) → (nodes : List NodeRow) → PlanAnswer
 answer_of (Ok r) loggers kinds nodes =
     accepted (plan_of r.ratio (take r.logger_count loggers) (take r.kind_count kinds) (take r.node_count nodes))
 answer_of (Err r) loggers kinds nodes = refused (number_of r.fault) r.place

@@ -92,20 +92,14 @@ pub type Loggers = [u16; 8];
 
 pub type Kinds = [u16; 32];
 
-// A node's operator, its context, and the slots of its inputs, left, middle and third.
-pub type NodeRow = [u16; 5];
+// A node as it is kept: the slots are those of its inputs, left, middle and third.
+#[derive(Clone, Copy, PartialEq, Eq, Default)]
+pub struct NodeRow {
+    pub operator: u16,
+    pub context: u16,
+    pub slots: [u16; 3],
+}
 
-pub const OPERATOR: usize = 0;
-
-pub const CONTEXT: usize = 1;
-
-pub const INPUTS: usize = 2;
-
-const LEFT: usize = 2;
-
-const MIDDLE: usize = 3;
-
-const THIRD: usize = 4;
 // An input's slot is the place of a kind, or NODE_SLOTS and the place of an earlier node; NO_SLOT where there is none: no Option,
 // since a row holds that slot too, as `SlotOf` has it.
 const NO_SLOT: u16 = 33;
@@ -202,13 +196,15 @@ fn row_of(n: Node, kinds: usize, place: usize) -> NodeRow
     requires { (kinds ≤ 32) × (place < 16) × node.fits n }
     ensures { RowOf kinds place n result }
 {
-    [
-        n.operator as u16,
-        n.context as u16,
-        slot_of(kinds, place, n.left),
-        slot_of(kinds, place, n.middle),
-        slot_of(kinds, place, n.third),
-    ]
+    NodeRow {
+        operator: n.operator as u16,
+        context: n.context as u16,
+        slots: [
+            slot_of(kinds, place, n.left),
+            slot_of(kinds, place, n.middle),
+            slot_of(kinds, place, n.third),
+        ],
+    }
 }
 
 // OR, AND and SEQ have no third input, the others have one.
@@ -232,10 +228,11 @@ fn judge_node(node: Node, row: &NodeRow) -> Result<(), PlanFault>
     if !forms::is_within(node.context, Node::RECENT, Node::CUMULATIVE) {
         return Err(PlanFault::Context);
     }
-    if row[LEFT] == NO_SLOT || row[MIDDLE] == NO_SLOT {
+    let [left, middle, third] = row.slots;
+    if left == NO_SLOT || middle == NO_SLOT {
         return Err(PlanFault::Input);
     }
-    if !is_third(node, row[THIRD]) {
+    if !is_third(node, third) {
         return Err(PlanFault::ThirdInput);
     }
     Ok(())

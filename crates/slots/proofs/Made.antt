@@ -1,5 +1,5 @@
 -- The nodes of a plan as the code keeps them, and the rest of each seat.
-use mathlib.Core.List.{List, [], map}
+use mathlib.Core.List.{List, map}
 use mathlib.Core.Path.{◌≡◌, refl, sym, ap, ◌∙◌}
 use Prim.Native.Nat.{ℕ, zero, suc, ◌+◌, ◌*◌, ◌≤◌, ◌<◌}
 use native.Mathlib.Decide.{dec_lt, ℕ_discrete}
@@ -7,9 +7,10 @@ use native.Mathlib.Omega.{arith}
 use lib.ListN.{get_or, length, length-map, length-set, length-take, set, take, get_or-map}
 use lib.Seq.{get_or-set_other, get_or-set_same, get_or-take}
 use Rattle.plans.specs.declared.Node.{Node}
+use Rattle.plans.specs.declared.NodeRow.{NodeRow}
 use Rattle.plans.specs.Layout.{inputs_of}
 use Rattle.plans.specs.Limits.{no_node}
-use Rattle.plans.specs.Views.{input_from, node_of}
+use Rattle.plans.specs.Views.{input_from, no_row, node_of}
 use Rattle.progress.specs.Seats.{InputsSeated, Seated, list_end, made_room, made_start, seat_context}
 use Rattle.progress.proofs.Parts.{made-room-most}
 use Rattle.slots.specs.Steps.{AllInputs, AllSeated, total}
@@ -18,18 +19,18 @@ use Rattle.slots.proofs.Takers.{takers_kept}
 
 -- ---- the nodes
 -- the first n rows
-abbrev pub first_nodes : ℕ → List (List ℕ) → List Node
+abbrev pub first_nodes : ℕ → List NodeRow → List Node
 first_nodes n rows = map node_of (take n rows)
 
-module _ (n : ℕ) (rows : List (List ℕ)) where
+module _ (n : ℕ) (rows : List NodeRow) where
   pub nodes-size : n ≤ length rows → n ≡ length (first_nodes n rows)
   nodes-size h = simp (length-map, length-take) (omega arith)
 
-  pub node_at : (k : ℕ) → k < n → get_or (first_nodes n rows) k no_node ≡ node_of (get_or rows k [])
+  pub node_at : (k : ℕ) → k < n → get_or (first_nodes n rows) k no_node ≡ node_of (get_or rows k no_row)
   unfolding input_from
-  node_at k h = get_or-map node_of (take n rows) k [] ∙ ap node_of (get_or-take n rows k [] h)
+  node_at k h = get_or-map node_of (take n rows) k no_row ∙ ap node_of (get_or-take n rows k no_row h)
 
-pub node-input : (row : List ℕ) (i : ℕ) → i < 3 → input_from (get_or row (2 + i) 0) ≡ get_or (inputs_of (node_of row)) i 0
+pub node-input : (row : NodeRow) (i : ℕ) → i < 3 → input_from (get_or row.slots i 0) ≡ get_or (inputs_of (node_of row)) i 0
 node-input row zero h = refl
 node-input row (suc zero) h = refl
 node-input row (suc (suc zero)) h = refl

@@ -95,12 +95,12 @@ fn seat_inputs(
         → Filling places.now nodes k 0 seats.old takers.old start
         → Filling places.now nodes (k + 1) 0 seats.new takers.new result }
 {
-    let actions = operators::actions_of(row[plans::OPERATOR]);
+    let actions = operators::actions_of(row.operator);
     let mut l = start;
     for i in 0..3 {
         let at = SEAT * k + INPUT * i;
         let action = actions[i];
-        let slot = row[plans::INPUTS + i] as u8;
+        let slot = row.slots[i] as u8;
         takers[slot as usize] |= 1u64 << (4 * k + i);
         seats[at + ACTION] = action;
         seats[at + SLOT] = slot as u16;
@@ -137,7 +137,7 @@ pub fn seat_made(nodes: &Nodes, n: usize, takers: &SlotTakers, seats: &mut Seats
 {
     let mut m: u16 = 1;
     for k in 0..n {
-        seats[SEAT * k] = nodes[k][plans::CONTEXT];
+        seats[SEAT * k] = nodes[k].context;
         seats[SEAT * k + MADE] = m;
         m += made_room(takers[34 + k]);
     }
