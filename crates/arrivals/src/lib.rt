@@ -46,7 +46,7 @@ pub const NOTHING: u16 = 7;
 
 // ---- what is made
 
-// One finding for each taken, in waiting order.
+// One finding for each taken, in waiting order; a mark past those that wait takes none.
 fn emit_each(
     made: &mut Made,
     list: &[Packed],
@@ -136,7 +136,7 @@ struct Group {
     rest: u64,
 }
 
-// The first of the rest, or all, by the context.
+// The first of the rest, which is given, or all, by the context.
 fn next_group(context: u64, first: usize, rest: u64) -> Group
     requires { (first ≡ first_mark (marks_of rest)) × (first < 16) }
     ensures { ((l : List Occurrence) → first_mark (marks_of rest) < length l

@@ -439,7 +439,7 @@ fn some_before(list: &[Packed], marks: u64, middle: &Packed, notes: &[Note]) -> 
     let first = occurrences::lowest(middle, notes);
     let waiting = waiting_lists::list_of(list);
     let mut rest = marks;
-    // A loop over the marks, and not over all that wait: few are marked.
+    // A loop over the marks, and not over all that wait: few are marked. A mark past those that wait tells of none.
     while let Some(i) = waiting_lists::first_marked(rest)
         && i < waiting.len
     {
