@@ -46,7 +46,7 @@ pub const NOTHING: u16 = 7;
 
 // ---- what is made
 
-// One finding for each taken, in waiting order.
+// One finding for each taken, in waiting order; a mark past those that wait takes none.
 fn emit_each(
     made: &mut Made,
     list: &[Packed],
@@ -64,16 +64,15 @@ fn emit_each(
     ensures beyond { Beyond out.old out.new made.old.bytes made.new.findings made.new.bytes }
 {
     let waiting = waiting_lists::list_of(list);
-    let n = waiting.len;
     let mut rest = taken;
-    let mut i = waiting_lists::first_marked(rest);
-    while i < n {
+    while let Some(i) = waiting_lists::first_marked(rest)
+        && i < waiting.len
+    {
         let at = waiting_lists::place_at(waiting, i);
         let c = occurrences::combined(&list[at], o, setting.notes);
         emissions::emit_one(made, place, &c, setting, out)?;
         // Without its lowest mark.
-        rest = rest & (rest - 1);
-        i = waiting_lists::first_marked(rest);
+        rest &= rest - 1;
     }
     Ok(())
 }
@@ -95,14 +94,14 @@ fn emit_together(
         (emitted_all (length out.old) setting.now.loggers.now place s (made_of together t.clocks (marked l (marks_of taken)) x)) }
     ensures beyond { Beyond out.old out.new made.old.bytes made.new.findings made.new.bytes }
 {
-    let first = waiting_lists::first_marked(taken);
     let waiting = waiting_lists::list_of(list);
-    let n = waiting.len;
-    if n <= first {
-        return Ok(());
+    if let Some(first) = waiting_lists::first_marked(taken)
+        && first < waiting.len
+    {
+        let all = contexts::all_combined(list, taken, o, setting.notes);
+        return emissions::emit_one(made, place, &all, setting, out);
     }
-    let all = contexts::all_combined(list, taken, o, setting.notes);
-    emissions::emit_one(made, place, &all, setting, out)
+    Ok(())
 }
 
 // What an arrival makes of those taken, by the context.
@@ -137,15 +136,14 @@ struct Group {
     rest: u64,
 }
 
-// The first of the rest, or all, by the context.
-fn next_group(context: u64, rest: u64) -> Group
-    requires { first_mark (marks_of rest) < 16 }
+// The first of the rest, which is given, or all, by the context.
+fn next_group(context: u64, first: usize, rest: u64) -> Group
+    requires { (first ≡ first_mark (marks_of rest)) × (first < 16) }
     ensures { ((l : List Occurrence) → first_mark (marks_of rest) < length l
         → (groups_of (row_of context).finds (marked l (marks_of rest))
         ≡ marked l (marks_of result.lefts) ∷ groups_of (row_of context).finds (marked l (marks_of result.rest)))
         × Some (marked l (marks_of result.lefts))) × (result.rest < rest) }
 {
-    let first = waiting_lists::first_marked(rest);
     let each = contexts::makes_each(context);
     if each {
         // Without its lowest mark.
@@ -186,15 +184,14 @@ pub fn emit_accumulated(
     ensures beyond { Beyond out.old out.new made.old.bytes made.new.findings made.new.bytes }
 {
     let waiting = waiting_lists::list_of(lefts);
-    let n = waiting.len;
     let mut rest = taken;
-    let mut i = waiting_lists::first_marked(rest);
-    while i < n {
-        let group = next_group(context, rest);
+    while let Some(i) = waiting_lists::first_marked(rest)
+        && i < waiting.len
+    {
+        let group = next_group(context, i, rest);
         let all = contexts::accumulated(lefts, group.lefts, middles, earlier, o, setting.notes);
         emissions::emit_one(made, place, &all, setting, out)?;
         rest = group.rest;
-        i = waiting_lists::first_marked(rest);
     }
     Ok(())
 }
@@ -242,7 +239,7 @@ pub fn choice_of(context: u64, list: &[Packed], candidates: u64, notes: &[Note])
         → (marks_of result.taken ≡ (chosen (row_of context) t.clocks l (marks_of candidates)).taken)
         × (marks_of result.removed ≡ (chosen (row_of context) t.clocks l (marks_of candidates)).removed) }
 {
-    if waiting_lists::first_marked(candidates) == 16 {
+    if waiting_lists::first_marked(candidates).is_none() {
         return Choice {
             taken: 0,
             removed: 0,
@@ -271,7 +268,7 @@ pub fn waits(action: u16, context: u64, candidates: u64) -> bool
         return true;
     }
     if action == MEET_AND_WAIT {
-        if waiting_lists::first_marked(candidates) == 16 {
+        if waiting_lists::first_marked(candidates).is_none() {
             return true;
         }
         return contexts::joins_afterwards(context);

@@ -1,11 +1,11 @@
 -- What is accumulated: the lefts, the arrival and the middles between.
-use Rattle.std.proofs.Common.{◌≡◌, ℕ, ◌<◌, Bool, true, false, ◌&&◌, List, ◌∷◌, ◌++◌, map, length, get_or, set, sym, refl, ap, ◌∙◌, arith}
+use Rattle.std.proofs.Common.{◌≡◌, ℕ, ◌<◌, ◌≤◌, Bool, true, false, ◌&&◌, List, ◌∷◌, ◌++◌, map, length, get_or, set, sym, refl, ap, ◌∙◌, arith}
 use mathlib.Core.List.{zip_with}
 use Rattle.sequences.specs.Loops.{fold}
 use Rattle.sequences.specs.Marks.{first_mark, marked, padded}
 use Rattle.sequences.specs.Select.{filter, some_passes}
 use Rattle.sequences.proofs.Loops.{fold-append}
-use Rattle.sequences.proofs.Marks.{marked-first, marked-map, marked-padded, zip_test}
+use Rattle.sequences.proofs.Marks.{marked-first, marked-none, marked-map, marked-padded, zip_test}
 use Rattle.sequences.proofs.Select.{filter_same}
 use Rattle.timestamps.specs.Order.{Clocks}
 use Rattle.occurrences.specs.declared.Occurrence.{Occurrence}
@@ -28,6 +28,11 @@ module _ (p : Occurrence → Bool) (l : List Occurrence) (m : List Bool) (i : �
   pub some-later : p (get_or l i no_occurrence) ≡ false → (rest : List Bool) → rest ≡ set m (first_mark m) false → some_passes p (marked l rest) ≡ some_passes p (marked l m)
   unfolding some_passes
   some-later e rest same = rw (first_of, e, same)
+
+-- no mark is left
+pub none-left : (p : Occurrence → Bool) (l : List Occurrence) (m : List Bool) → length l ≤ first_mark m → false ≡ some_passes p (marked l m)
+unfolding some_passes
+none-left p l m h = sym (ap (some_passes p) (marked-none l m h))
 
 -- ---- the middles between
 and-turned : (a b : Bool) → (a && b) ≡ (b && a)

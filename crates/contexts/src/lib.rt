@@ -439,9 +439,10 @@ fn some_before(list: &[Packed], marks: u64, middle: &Packed, notes: &[Note]) -> 
     let first = occurrences::lowest(middle, notes);
     let waiting = waiting_lists::list_of(list);
     let mut rest = marks;
-    // A loop over the marks, and not over all that wait: few are marked. It ends by number 16, which `first_marked` says where none is left.
-    let mut i = waiting_lists::first_marked(rest);
-    while i < waiting.len {
+    // A loop over the marks, and not over all that wait: few are marked. A mark past those that wait tells of none.
+    while let Some(i) = waiting_lists::first_marked(rest)
+        && i < waiting.len
+    {
         let place = waiting_lists::place_at(waiting, i);
         let low = occurrences::lowest(&list[place], notes);
         let word = occurrences::order(low, &list[place], first, middle, notes);
@@ -450,7 +451,6 @@ fn some_before(list: &[Packed], marks: u64, middle: &Packed, notes: &[Note]) -> 
         }
         // Without its lowest mark.
         rest &= rest - 1;
-        i = waiting_lists::first_marked(rest);
     }
     false
 }

@@ -128,7 +128,9 @@ fn write_together(
 ) -> io::Result<()>
     requires { Arrives notes.now list.now o.now }
 {
-    if waiting_lists::first_marked(taken) < waiting_lists::list_of(list).len {
+    if let Some(first) = waiting_lists::first_marked(taken)
+        && first < waiting_lists::list_of(list).len
+    {
         let all = contexts::all_combined(list, taken, o, notes);
         write_events(rt, &all)?;
     }

@@ -192,7 +192,8 @@ pub fn list_start(seats: &Seats, k: usize, input: usize) -> usize
 
 // ---- the inputs that are due
 
-// The first of the inputs that are due, as a bit's place; 64 where none is.
+// The first of the inputs that are due, as a bit's place; 64 where none is, and no Option: 64 is read as an input of a node after all nodes, so that the same
+// test ends the last node's turn.
 pub fn next_due(due: u64) -> usize
     ensures { result ≡ count_trailing_zeros 64 due }
 {

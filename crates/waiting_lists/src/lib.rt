@@ -2,7 +2,7 @@
 // slice that is lent (specs/Lists.antt).
 #![tactic(auto)]
 
-ghost use Rattle.std.specs.Prelude.{false, true, List, [], ◌∷◌, ◌≡◌, ℕ, min, ◌+◌, ◌≤◌, ◌<◌, get_or, length, set, IsNone};
+ghost use Rattle.std.specs.Prelude.{false, true, List, [], ◌∷◌, ◌≡◌, ℕ, min, ◌+◌, ◌≤◌, ◌<◌, get_or, length, set, IsNone, MatchOption};
 ghost use Rattle.sequences.specs.Choice.{pick};
 ghost use Rattle.sequences.specs.Marks.{first_mark, unmarked};
 ghost use Rattle.occurrences.specs.declared.Occurrence.{Occurrence};
@@ -46,11 +46,12 @@ pub fn with_mark(marks: u64, i: usize, mark: bool) -> u64
     if mark { marks | 1 << i } else { marks }
 }
 
-// The first that is marked; 16 where none is.
-pub fn first_marked(marks: u64) -> usize
-    ensures { result ≡ first_mark (marks_of marks) }
+// The first of 16 that is marked, if one is.
+pub fn first_marked(marks: u64) -> Option<usize>
+    ensures { MatchOption result (first_mark (marks_of marks) ≡ 16) (λ i. (i ≡ first_mark (marks_of marks)) × (i < 16)) }
 {
-    (marks.trailing_zeros() as usize).min(16)
+    let first = marks.trailing_zeros() as usize;
+    if first < 16 { Some(first) } else { None }
 }
 
 // ---- the order
@@ -192,7 +193,7 @@ pub fn remove_from(w: &mut [Packed], gone: u64)
     ensures { (ticks globals : List ℕ) (t : Notes ticks globals) (l : List Occurrence) → Waits t w.old l
         → Waits t w.new (unmarked l (marks_of gone)) }
 {
-    if first_marked(gone) == 16 {
+    if first_marked(gone).is_none() {
         return;
     }
     let mut rest = list_of(w);

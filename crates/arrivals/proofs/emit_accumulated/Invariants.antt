@@ -1,4 +1,4 @@
--- What is left to make, from the state so far, is the whole; i is the first mark left.
+-- What is left to make, from the state so far, is the whole.
 use Rattle.arrivals.proofs.Views.{Left}
 use Rattle.contexts.specs.Made.{accumulated_of, accumulation_of, groups_of}
 use Rattle.contexts.specs.Choice.{seq_candidates}
@@ -9,7 +9,7 @@ use Rattle.emissions.specs.Emissions.{Emits, Emitting, emitted, emitted_all}
 use Rattle.occurrences.specs.Packed.{NotesOf, Stands}
 use Rattle.occurrences.specs.declared.Occurrence.{Occurrence}
 use Rattle.sequences.specs.Loops.{fold}
-use Rattle.sequences.specs.Marks.{first_mark, marked}
+use Rattle.sequences.specs.Marks.{marked}
 use Rattle.waiting_lists.specs.Lists.{Waits}
 use Rattle.waiting_lists.specs.Marks.{marks_of}
 use lib.ListN.{length}
@@ -19,7 +19,7 @@ use Rattle.arrivals.proofs.emit_accumulated.Given as goal
 
 abbrev pub invariant-loop-i : goal.invariant-loop-i
 invariant-loop-i v =
-    (v.i ≡ first_mark (marks_of v.rest)) × (length v.out ≡ length v.initial.out) × Beyond v.initial.out v.out v.initial.made.bytes v.made.findings v.made.bytes
+    (length v.out ≡ length v.initial.out) × Beyond v.initial.out v.out v.initial.made.bytes v.made.findings v.made.bytes
     × ((t : NotesOf v.setting.notes.now) (k l : List Occurrence) (s : Emitting) (x : Occurrence) → Waits t v.middles k → Waits t v.lefts l → Emits t None v.initial.made v.initial.out s → Stands t v.o x
     → marks_of v.earlier ≡ seq_candidates t.clocks k x
     → Left t v.made v.out

@@ -1,4 +1,4 @@
--- What is left to make, from the state so far, is the whole; i is the first mark left.
+-- What is left to make, from the state so far, is the whole.
 use Rattle.arrivals.proofs.Views.{Left}
 use Rattle.detections.specs.Writing.{Beyond}
 use Rattle.std.specs.Prelude.{None}
@@ -7,7 +7,7 @@ use Rattle.occurrences.specs.Combination.{combined_of}
 use Rattle.occurrences.specs.Packed.{NotesOf, Stands}
 use Rattle.occurrences.specs.declared.Occurrence.{Occurrence}
 use Rattle.sequences.specs.Loops.{fold}
-use Rattle.sequences.specs.Marks.{first_mark, marked}
+use Rattle.sequences.specs.Marks.{marked}
 use Rattle.waiting_lists.specs.Lists.{Waits}
 use Rattle.waiting_lists.specs.Marks.{marks_of}
 use lib.ListN.{length}
@@ -17,7 +17,7 @@ use Rattle.arrivals.proofs.emit_each.Given as goal
 
 abbrev pub invariant-loop-i : goal.invariant-loop-i
 invariant-loop-i v =
-    (v.i ≡ first_mark (marks_of v.rest)) × (length v.out ≡ length v.initial.out) × Beyond v.initial.out v.out v.initial.made.bytes v.made.findings v.made.bytes
+    (length v.out ≡ length v.initial.out) × Beyond v.initial.out v.out v.initial.made.bytes v.made.findings v.made.bytes
     × ((t : NotesOf v.setting.notes.now) (l : List Occurrence) (s : Emitting) (x : Occurrence) → Waits t v.list l → Emits t None v.initial.made v.initial.out s → Stands t v.o x
     → Left t v.made v.out (fold (emitted (length v.initial.out) v.setting.loggers.now v.place) (map (λ w. combined_of t.clocks w x) (marked l (marks_of v.rest))))
     (emitted_all (length v.initial.out) v.setting.loggers.now v.place s (map (λ w. combined_of t.clocks w x) (marked l (marks_of v.taken)))))

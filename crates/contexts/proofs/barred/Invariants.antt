@@ -2,7 +2,7 @@
 use Rattle.std.proofs.Common.{◌≡◌, List, length, get_or, drop}
 use Rattle.contexts.specs.Steps.{Lows, bars_of}
 use Rattle.occurrences.specs.Occurrences.{no_occurrence}
-use Rattle.occurrences.specs.Packed.{Notes, NotesOf}
+use Rattle.occurrences.specs.Packed.{NotesOf}
 use Rattle.occurrences.specs.declared.Occurrence.{Occurrence}
 use Rattle.sequences.specs.Marks.{marked}
 use Rattle.sequences.specs.Select.{some_passes}

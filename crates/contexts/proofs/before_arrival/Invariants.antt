@@ -1,7 +1,7 @@
 -- The marks before place i are those of the test.
 use Rattle.std.proofs.Common.{◌≡◌, List, map, take}
 use Rattle.occurrences.specs.Occurrences.{is_before}
-use Rattle.occurrences.specs.Packed.{Notes, NotesOf, Stands}
+use Rattle.occurrences.specs.Packed.{NotesOf, Stands}
 use Rattle.occurrences.specs.declared.Occurrence.{Occurrence}
 use Rattle.sequences.specs.Marks.{padded}
 use Rattle.waiting_lists.specs.Lists.{Waits}

@@ -1,7 +1,7 @@
 -- No middle before place j blocks it; only the first `blockers` of them are looked at.
 use Rattle.std.proofs.Common.{◌≡◌, List, take, drop}
 use Rattle.contexts.specs.Choice.{blocks}
-use Rattle.occurrences.specs.Packed.{Notes, NotesOf, Stands}
+use Rattle.occurrences.specs.Packed.{NotesOf, Stands}
 use Rattle.occurrences.specs.Steps.{LowestOf}
 use Rattle.occurrences.specs.declared.Occurrence.{Occurrence}
 use Rattle.sequences.specs.Select.{some_passes}

@@ -1,7 +1,7 @@
 -- Every candidate that waits; else the marks before place i are those of the rule.
 use Rattle.std.proofs.Common.{◌≡◌, ◌&&◌, List, take}
 use Rattle.contexts.specs.Choice.{takes}
-use Rattle.occurrences.specs.Packed.{Notes, NotesOf}
+use Rattle.occurrences.specs.Packed.{NotesOf}
 use Rattle.occurrences.specs.declared.Occurrence.{Occurrence}
 use Rattle.sequences.specs.Marks.{marked, padded}
 use Rattle.waiting_lists.specs.Lists.{Waits}
