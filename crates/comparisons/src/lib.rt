@@ -1,7 +1,7 @@
 // The comparison of two lent lists of timestamps, one of the two calls that stand open to any caller.
 #![tactic(auto)]
 
-ghost use Rattle.std.specs.Prelude.{◌≡◌, ◌+◌, ◌^◌, ◌<◌, true, List, [], ◌∷◌, ◌++◌, length, OnOk};
+ghost use Rattle.std.specs.Prelude.{◌≡◌, ◌+◌, ◌-◌, ◌^◌, ◌<◌, true, List, [], ◌∷◌, ◌++◌, length, take, OnOk, OnErr, IfErr};
 ghost use Rattle.timestamps.specs.declared.Timestamp.{Timestamp};
 ghost use Rattle.timestamps.specs.Order.{clearly_earlier, clocks_of};
 ghost use Rattle.comparisons.specs.Answers.{compare_answer, judged, refused_comparison};
@@ -79,13 +79,14 @@ impl Gathering {
         globals: [GlobalTick(0); 8],
     };
 
-    // One entry more, or why it is turned back. One of a logger that is there must be the same again; the first of its logger, for which it is divided, may
-    // not tear the span: all before it are of other loggers.
+    // One entry more, or why it is turned back: then nothing changes. One of a logger that is there must be the same again; the first of its logger, for
+    // which it is divided, may not tear the span: all before it are of other loggers.
     fn gather(&mut self, s: Timestamp, ratio: u64) -> Result<(), Refusal>
         ensures judged { (l : List Timestamp) → NotedList (clocks_of ratio) l self.old
             → result ≡ entry_judged (clocks_of ratio) l s }
         ensures noted { (l : List Timestamp) → NotedList (clocks_of ratio) l self.old
             → OnOk result (NotedList (clocks_of ratio) (l ++ (s ∷ [])) self.new) }
+        ensures kept { OnErr result (self.new ≡ self.old) }
     {
         if !s.valid() {
             return Err(Refusal::BadEntry);
@@ -119,15 +120,16 @@ fn gather_list(
     from: u64,
     gathered: &mut Gathering,
 ) -> Result<(), Refused>
-    requires { from + length list.now < 2 ^ 64 }
-    ensures judged { gathered.old ≡ nothing_gathered → result ≡ judged ratio [] from list.now }
+    ensures judged { gathered.old ≡ nothing_gathered → from + length list.now < 2 ^ 64 → result ≡ judged ratio [] from list.now }
     ensures noted { gathered.old ≡ nothing_gathered → OnOk result (NotedList (clocks_of ratio) list.now gathered.new) }
+    ensures kept { gathered.old ≡ nothing_gathered → from + length list.now < 2 ^ 64
+        → IfErr result (λ refused. NotedList (clocks_of ratio) (take (refused.place - from) list.now) gathered.new) }
 {
     for (i, s) in list.iter().enumerate() {
         if let Err(why) = gathered.gather(*s, ratio) {
             return Err(Refused {
                 why,
-                place: from + i as u64,
+                place: from.wrapping_add(i as u64),
             });
         }
     }

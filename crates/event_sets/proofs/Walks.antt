@@ -1,23 +1,24 @@
 -- Walking the elements of a set in rising order: the next element from a number on, and what comes after it.
-use mathlib.Core.Path.{◌≡◌, refl, ap, ◌∙◌}
+use mathlib.Core.Path.{◌≡◌, refl, sym, ap, ◌∙◌}
 use mathlib.Core.Bool.{true, false}
 use mathlib.Core.List.Memᴰ
 use mathlib.Core.List.{List, [], ◌∷◌, ◌++◌}
-use mathlib.Core.Logic.{⊎_elim}
+use mathlib.Core.Logic.{◌↔◌, ⊎_elim}
 use Prim.Native.Nat.{ℕ, zero, suc, ◌+◌, ◌-◌, ◌/◌, ◌%◌, ◌^◌, min, ◌≤◌, ◌<◌}
 use native.Mathlib.Decide.{dec_lt}
 use native.Mathlib.Nat.{suc-add}
 use native.Mathlib.Omega.{arith}
-use borrow.Author.Tests.{le-leb, lt-leb, leb-true}
+use borrow.Author.Tests.{lt-ltb, le-ltb, le-leb, lt-leb, leb-true}
 use lib.Count.{count_trailing_zeros, under}
-use lib.Dec.{leb}
+use lib.Dec.{leb, ltb}
 use lib.Pow.{shr-shr, shr_lt}
 use Rattle.std.specs.Prelude.{Some, None, option_map}
 use Rattle.std.specs.List.{slice_get}
+use Rattle.sequences.specs.Choice.{pick}
 use Rattle.sequences.specs.Members.{◌is_in◌}
 use Rattle.sequences.specs.Range.{numbers_from, Rising}
 use Rattle.sequences.specs.Select.{filter}
-use Rattle.sequences.proofs.Booleans.{either_way}
+use Rattle.sequences.proofs.Booleans.{either_way, same_test}
 use Rattle.sequences.proofs.Range.{range_none, range_next, range_split, range_of}
 use Rattle.sequences.proofs.Select.{filter_nil, filter_yes, filter_no, filter-append, filter_in, filter_of, filter_all, filter_none, filter_same, filter-rising}
 use Rattle.event_sets.specs.declared.EventSet.{EventSet}
@@ -108,6 +109,17 @@ module _ (s : EventSet) (n : ℕ) {e : ℕ} (f : next_from s n ≡ Some e) where
   next-least j y h =
       first-least (elements_from s n) (filter-rising (leb n) (elements s) (elements-rising s)) f (filter_in (leb n) (elements s) ((elements-has s j).1 y) (le-leb n j h))
 
+  -- what lies between a number and the next element are no elements
+  pub walk_skip : elements_from s e ≡ elements_from s n
+  unfolding elements_from
+  walk_skip = filter_same (leb e) (leb n) (elements s) (λ j m. same_test (leb e j) (leb n j)
+      (λ h. le-leb n j (omega (arith, next-later, leb-true e j h)))
+      (λ h. le-leb e j (next-least j ((elements-has s j).0 m) (leb-true n j h))))
+
+  pub next-again : next_from s e ≡ Some e
+  unfolding next_from
+  next-again = ap (λ l. slice_get l 0) walk_skip ∙ f
+
 -- where there is none the set has none
 pub next-none : (s : EventSet) (n : ℕ) → next_from s n ≡ None → elements_from s n ≡ []
 unfolding next_from
@@ -127,6 +139,24 @@ walk_in s (suc d) n {e = e} h f =
 pub walk_next : (s : EventSet) (n : ℕ) {e : ℕ} → next_from s n ≡ Some e → elements_from s n ≡ e ∷ elements_from s (e + 1)
 walk_next s n f = walk_in s (128 - n) n (omega (arith, next-most s n f, next-later s n f)) f
 
+-- a walk is at its end exactly where there is no next element
+pub walk_end : (s : EventSet) (n : ℕ) → (next_from s n ≡ None) ↔ (elements_from s n ≡ [])
+unfolding next_from
+walk_end s n = (next-none s n, λ e. rw e)
+
+-- a loop over the elements, at the element `at`: where it starts, and each turn
+pub walk_start : (s : EventSet) {at : ℕ} → next_from s 0 ≡ Some at → (next_from s at ≡ Some at) × (elements_from s at ≡ elements s)
+walk_start s f = (next-again s 0 f, walk_skip s 0 f ∙ from_start s)
+
+pub walk_turn : (s : EventSet) {at next : ℕ} → next_from s at ≡ Some at → next_from s (at + 1) ≡ Some next
+    → (next_from s next ≡ Some next) × (elements_from s at ≡ at ∷ elements_from s next) × (at < next) × (next < 128)
+walk_turn s {at} {next} f g = (
+  next-again s (at + 1) g,
+  walk_next s at f ∙ ap (λ l. at ∷ l) (sym (walk_skip s (at + 1) g)),
+  omega (arith, next-later s (at + 1) g),
+  next-most s (at + 1) g,
+)
+
 -- ---- the next bit of a word, by its trailing zeros
 
 under_min : (b t u d : ℕ) → t ≡ min d u → under b t ≡ min (suc d) (under b u)
@@ -139,23 +169,43 @@ unfolding count_trailing_zeros
 zeros_fewer zero e n = omega arith
 zeros_fewer (suc d) e n = rw (suc-add d e) (under_min (n % 2) (count_trailing_zeros d (n / 2)) (count_trailing_zeros (d + e) (n / 2)) d (zeros_fewer d e (n / 2)))
 
+-- a number that is not 0 has fewer zeros than places
+zeros_below : (d e n : ℕ) → n < 2 ^ d → 0 < n → count_trailing_zeros (d + e) n < d
+unfolding count_trailing_zeros
+zeros_below zero e n f p = absurd (omega (arith, f))
+zeros_below (suc d) e n f p =
+    let b : suc d ≡ d + 1 = omega arith in
+    let fits : n / 2 < 2 ^ d = shr_lt d 1 (rw b at f) in
+    elim (dec_lt 0 (n % 2)) [
+      | yes o ↦ (let y : n % 2 ≡ 1 = omega arith in rw (suc-add d e, y) (omega arith))
+      | no o ↦ (let z : n % 2 ≡ 0 = omega (arith, o) in rw (suc-add d e, z) (omega (arith, zeros_below d e (n / 2) fits (omega arith))))
+    ]
+
 module _ (word : ℕ) where
   half : (k : ℕ) → word / 2 ^ k / 2 ≡ word / 2 ^ (k + 1)
   half k = shr-shr word k 1
 
-  first_zeros : (d e k : ℕ) → word / 2 ^ k < 2 ^ d → 0 < word / 2 ^ k
-      → slice_get (filter (is_set word) (numbers_from k d)) 0 ≡ Some (k + count_trailing_zeros (d + e) (word / 2 ^ k))
+  first_zeros : (d k : ℕ) → count_trailing_zeros d (word / 2 ^ k) < d
+      → slice_get (filter (is_set word) (numbers_from k d)) 0 ≡ Some (k + count_trailing_zeros d (word / 2 ^ k))
   unfolding count_trailing_zeros
-  first_zeros zero e k f p = absurd (omega (arith, f))
-  first_zeros (suc d) e k f p =
-      let b : suc d ≡ d + 1 = omega arith in
-      let more : word / 2 ^ k < 2 ^ (d + 1) = rw (← b) f in
-      let fits : word / 2 ^ (k + 1) < 2 ^ d = rw (half k) at (shr_lt d 1 more) in
+  first_zeros zero k h = absurd (omega (arith, h))
+  first_zeros (suc d) k h =
       ⊎_elim
-      (λ y. rw (range_next k d, filter_yes (is_set word) k (numbers_from (k + 1) d) y, suc-add d e, bit_one word k y) (ap Some (omega arith)))
+      (λ y. rw (range_next k d, filter_yes (is_set word) k (numbers_from (k + 1) d) y, bit_one word k y) (ap Some (omega arith)))
       (λ n. let z = bit_zero word k n in
-      rw (range_next k d, filter_no (is_set word) k (numbers_from (k + 1) d) n, suc-add d e, z, half k)
-      (first_zeros d e (k + 1) fits (omega (arith, half k, z, p)) ∙ ap Some (omega arith)))
+      let g = rw (z, half k) at h in
+      rw (range_next k d, filter_no (is_set word) k (numbers_from (k + 1) d) n, z, half k)
+      (first_zeros d (k + 1) (omega (arith, g)) ∙ ap Some (omega arith)))
+      (either_way (is_set word k))
+
+  first_none : (d k : ℕ) → d ≤ count_trailing_zeros d (word / 2 ^ k) → filter (is_set word) (numbers_from k d) ≡ []
+  unfolding count_trailing_zeros
+  first_none zero k h = rw (range_none k, filter_nil (is_set word))
+  first_none (suc d) k h =
+      ⊎_elim
+      (λ y. absurd (let g = rw (bit_one word k y) at h in omega (arith, g)))
+      (λ n. let g = rw (bit_zero word k n, half k) at h in
+      rw (range_next k d, filter_no (is_set word) k (numbers_from (k + 1) d) n) (first_none d (k + 1) (omega (arith, g))))
       (either_way (is_set word k))
 
   first_empty : (d k : ℕ) → word / 2 ^ k ≡ 0 → filter (is_set word) (numbers_from k d) ≡ []
@@ -172,16 +222,28 @@ module _ (word : ℕ) where
   unfolding next_bit
   bit_empty k z = rw (first_empty (64 - k) k z)
 
-  pub bit_is : (k : ℕ) → k < 64 → word < 2 ^ 64 → 0 < word / 2 ^ k → next_bit word k ≡ Some (k + count_trailing_zeros 64 (word / 2 ^ k))
+  -- past as many zeros, if that is a place of the word
+  pub bit_is : (k : ℕ) → k < 64
+      → next_bit word k ≡ pick (ltb (k + count_trailing_zeros 64 (word / 2 ^ k)) 64) (Some (k + count_trailing_zeros 64 (word / 2 ^ k))) None
   unfolding next_bit
-  bit_is k h f p =
+  bit_is k h =
+      let a : 64 - k + k ≡ 64 = omega arith in
+      let fewer : count_trailing_zeros (64 - k) (word / 2 ^ k) ≡ min (64 - k) (count_trailing_zeros 64 (word / 2 ^ k)) = rw a at (zeros_fewer (64 - k) k (word / 2 ^ k)) in
+      elim (dec_lt (k + count_trailing_zeros 64 (word / 2 ^ k)) 64) [
+        | yes l ↦ rw (lt-ltb (k + count_trailing_zeros 64 (word / 2 ^ k)) 64 l) (first_zeros (64 - k) k (omega arith) ∙ ap Some (omega arith))
+        | no l ↦ rw (le-ltb (k + count_trailing_zeros 64 (word / 2 ^ k)) 64 (omega arith), first_none (64 - k) k (omega arith))
+      ]
+
+  pub bit_found : (k : ℕ) → k < 64 → word < 2 ^ 64 → 0 < word / 2 ^ k → next_bit word k ≡ Some (k + count_trailing_zeros 64 (word / 2 ^ k))
+  bit_found k h f p =
       let a : 64 - k + k ≡ 64 = omega arith in
       let fits : word < 2 ^ (64 - k + k) = rw a f in
-      rw a at (first_zeros (64 - k) k k (shr_lt (64 - k) k fits) p)
+      let below : count_trailing_zeros 64 (word / 2 ^ k) < 64 - k = rw a at (zeros_below (64 - k) k (word / 2 ^ k) (shr_lt (64 - k) k fits) p) in
+      rw (lt-ltb (k + count_trailing_zeros 64 (word / 2 ^ k)) 64 (omega arith)) at (bit_is k h)
 
-  pub bit_below : (k : ℕ) {place : ℕ} → next_bit word k ≡ Some place → place < 64
+  pub bit_most : (k : ℕ) {place : ℕ} → next_bit word k ≡ Some place → place < 64
   unfolding next_bit
-  bit_below k e = omega (arith, range_of k (64 - k) (filter_of (is_set word) (numbers_from k (64 - k)) (first-in _ e)).0)
+  bit_most k e = omega (arith, range_of k (64 - k) (filter_of (is_set word) (numbers_from k (64 - k)) (first-in _ e)).0)
 
 -- ---- the next element, by the next bits of the words
 
@@ -235,15 +297,15 @@ module _ (s : EventSet) where
   past_low n h e = rw (low_places n h) (first-append_none _ _ e)
 
   -- what the code returns: a next bit of the low word, else the next bit of the high word
-  pub next-low : (n : ℕ) {place : ℕ} → next_bit s.low n ≡ Some place → next_from s n ≡ Some place
-  next-low n e =
+  pub next-found : (n : ℕ) {place : ℕ} → next_bit s.low n ≡ Some place → next_from s n ≡ Some place
+  next-found n e =
       elim (dec_lt n 64) [
         | yes h ↦ found_low n h e
         | no h ↦ absurd (let z = bit_beyond s.low n (omega arith) in cc)
       ]
 
-  pub next-after : (n m : ℕ) → next_bit s.low n ≡ None → m ≡ n - 64 → next_from s n ≡ option_map (λ p. 64 + p) (next_bit s.high m)
-  next-after n m e f =
+  pub next_after : (n m : ℕ) → next_bit s.low n ≡ None → m ≡ n - 64 → next_from s n ≡ option_map (λ p. 64 + p) (next_bit s.high m)
+  next_after n m e f =
       elim (dec_lt n 64) [
         | yes h ↦ (let a : m ≡ 64 - 64 = omega arith in rw a (past_low n h e ∙ next-high 64 (omega arith)))
         | no h ↦ rw f (next-high n (omega arith))

@@ -1,5 +1,5 @@
 -- Before the first entry nothing is gathered; then entry by entry.
-use Rattle.std.proofs.Common.{◌≡◌, ◌+◌, [], ap, ◌∙◌, arith, take}
+use Rattle.std.proofs.Common.{◌≡◌, ◌+◌, ◌-◌, ◌%◌, ◌^◌, [], ap, ◌∙◌, arith, take}
 use Rattle.timestamps.specs.Order.{clocks_of}
 use Rattle.comparisons.specs.Answers.{judged}
 use Rattle.comparisons.proofs.Entries.{judged_end, judged_next, judged_stop, noted_end, noted_next}
@@ -18,12 +18,19 @@ loop-i-preserved c = λ e.
     )
 
 pub returns-in-Err-clause-judged : goal.returns-in-Err-clause-judged
-returns-in-Err-clause-judged c = λ e.
+returns-in-Err-clause-judged c = λ e f.
     let (n, left) = c.loop-i.invariant e in
-    judged_stop c.args.ratio c.args.from _ _ _ c.loop-i-test.true _ (c.in-Err.ensures.judged (take c.loop-i.i c.args.list.now) n) ∙ left
+    let place : (c.args.from + c.loop-i.i) % 2 ^ 64 ≡ c.args.from + c.loop-i.i = omega (arith, f) in
+    rw place (judged_stop c.args.ratio c.args.from _ _ _ c.loop-i-test.true _ (c.in-Err.ensures.judged (take c.loop-i.i c.args.list.now) n) ∙ left)
+
+-- what is gathered is that of the entries before this one
+pub returns-in-Err-clause-kept : goal.returns-in-Err-clause-kept
+returns-in-Err-clause-kept c = λ e f.
+    let before : (c.args.from + c.loop-i.i) % 2 ^ 64 - c.args.from ≡ c.loop-i.i = omega (arith, f) in
+    rw (before, c.in-Err.ensures.kept) (c.loop-i.invariant e).0
 
 pub returns-clause-judged : goal.returns-clause-judged
-returns-clause-judged c = λ e. judged_end c.args.ratio c.args.from _ _ c.loop-i-test.false ∙ (c.loop-i.invariant e).1
+returns-clause-judged c = λ e f. judged_end c.args.ratio c.args.from _ _ c.loop-i-test.false ∙ (c.loop-i.invariant e).1
 
 pub returns-clause-noted : goal.returns-clause-noted
 returns-clause-noted c = λ e. noted_end c.args.ratio c.args.from _ _ _ c.loop-i-test.false (c.loop-i.invariant e).0

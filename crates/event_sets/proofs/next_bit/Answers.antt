@@ -2,7 +2,7 @@
 use mathlib.Core.Path.{sym}
 use native.Mathlib.Omega.{arith}
 use Rattle.std.proofs.Common.{rules}
-use Rattle.event_sets.proofs.Walks.{bit_is, bit_empty, bit_beyond}
+use Rattle.event_sets.proofs.Walks.{bit_found, bit_empty, bit_beyond}
 use Rattle.event_sets.proofs.next_bit.Goals as goal
 
 pub returns-then-place-ge64 : goal.returns-then-place-ge64
@@ -12,4 +12,4 @@ pub returns-then-rest-eq0 : goal.returns-then-rest-eq0
 returns-then-rest-eq0 c = sym (bit_empty c.args.word c.args.place c.if-rest-eq0.true)
 
 pub returns-else-rest-eq0 : goal.returns-else-rest-eq0
-returns-else-rest-eq0 c = sym (bit_is c.args.word c.args.place (search rules) (search rules) (omega arith))
+returns-else-rest-eq0 c = sym (bit_found c.args.word c.args.place (search rules) (search rules) (omega arith))

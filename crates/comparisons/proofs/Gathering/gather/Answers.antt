@@ -1,5 +1,5 @@
 -- By the note that its logger has.
-use Rattle.std.proofs.Common.{sym, ◌∙◌, arith}
+use Rattle.std.proofs.Common.{refl, sym, ◌∙◌, arith}
 use Rattle.timestamps.proofs.Groupings.{valid-place}
 use Rattle.comparisons.proofs.Entries.{again-noted, first-good, first-noted, first-torn, global_told, judged_bad, judged_clash, judged_good}
 use Rattle.comparisons.proofs.Notes.{again-fits, other_clash}
@@ -41,6 +41,10 @@ returns-then-is_torn-clause-judged c = λ l n.
     let v = sym c.valid.ensures ∙ c.if-not-valid.false in
     judged_clash _ l _ v (first-torn _ l _ v _ n c.if-self-k-ne0.false _ _ (global_told c.args.ratio _ _ c.global-global.ensures) c.widened-span.ensures
     (sym c.is_torn.ensures ∙ c.if-is_torn.true))
+
+-- nothing is noted yet
+pub returns-then-is_torn-clause-kept : goal.returns-then-is_torn-clause-kept
+returns-then-is_torn-clause-kept c = refl
 
 pub returns-clause-judged : goal.returns-clause-judged
 returns-clause-judged c = λ l n.
