@@ -17,6 +17,6 @@ read_of cut wrong w at (Err CutShort) = bad cut at
 read_of cut wrong w at (Err Outside) = bad wrong at
 read_of cut wrong w at (Ok v) = got v (at + w)
 
--- as the readers give it: a fault, a value, and the place after it or of the fault
+-- a value under its fault, 0 for none, at the place after it or of the fault: laws of a loop that fills an array say it so
 unfoldable pub seen : {A : Type 0} → ℕ → A → ℕ → Read A
 seen fault a at = judged fault a at at

@@ -83,6 +83,7 @@ fn put_events(page: &mut [u8], at: usize, events: EventSet) -> usize
     let mut to = at;
     let mut separator = b' ';
     let mut from = 0;
+    // A loop over the members: an iterator of them would be the same loop, with a type and a proof of its own.
     while let Some(e) = event_sets::next_from(events, from) {
         to = put_number(page, to, separator, e as u64);
         separator = b',';

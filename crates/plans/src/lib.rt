@@ -93,7 +93,7 @@ pub type Loggers = [u16; 8];
 pub type Kinds = [u16; 32];
 
 // A node as it is kept: the slots are those of its inputs, left, middle and third.
-#[derive(Clone, Copy, PartialEq, Eq, Default)]
+#[derive(Clone, Copy, Debug, PartialEq, Eq, PartialOrd, Ord, Hash, Default)]
 pub struct NodeRow {
     pub operator: u16,
     pub context: u16,

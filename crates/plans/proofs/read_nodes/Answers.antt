@@ -38,8 +38,8 @@ returns-in_err-at-clause-filled c =
     let l = c.loop-place in
     let held : List Node = map node_of l.into in
     let before : length (take l.place held) ≡ l.place = length-take-le l.place held (omega (arith, length-map l.into node_of, c.in_ok-count.ensures.most)) in
-    let p = err_from_is_err_and c.from_residual-in_err-at.result c.from_residual-in_err-at.ensures.1 in
-    rw (p.1, p.2)
+    let q = err_from_is_err_and c.from_residual-in_err-at.result c.from_residual-in_err-at.ensures.1 in
+    rw (q.1, q.2)
     (record {
       is = entry_bad (nodes a.kinds) a.bytes.now _ l.place held l.at _ l.invariant.rest _ _ c.loop-place-test.true
           (c.in_err-at.ensures ∙ node-piece a.bytes.now l.at 1 a.kinds l.place (take l.place held) before);
