@@ -23,7 +23,7 @@ pub enum Limit {
 }
 
 // What a node makes from one event, at most eight, and how many those are; all findings of the passage, and the place after the bytes written.
-#[derive(Clone, Copy)]
+#[derive(Clone, Copy, PartialEq, Eq)]
 pub struct Made {
     pub row: [Packed; 8],
     pub count: usize,
