@@ -1,7 +1,7 @@
 # awk -f list.awk crates/*/src/*.rt mutate=1 crates/NAME/src/lib.rt
 # The mutants of one source file: small wrong edits of the bodies of functions that have a contract, and of constants.
 # Each is printed as the number of a line, the function that it is in (TYPE/NAME for a method, - for a constant) and what stands there
-# instead, with tabs between. The other files only tell the types of names.
+# instead, with tabs between. The other files only tell the types of names. The numbers of an enum are its function's `number`, which reads them.
 # It reads the layout of `rt fmt`: each clause of a contract on one line, a body's braces at the depth of its `fn`.
 # No type is checked here: an edit that does not compile is none.
 
@@ -12,17 +12,18 @@ BEGIN {
     opposite["<<"] = ">>"; opposite[">>"] = "<<"; opposite["+="] = "-="; opposite["-="] = "+="
     comparison["<"]; comparison["<="]; comparison[">"]; comparison[">="]; comparison["=="]; comparison["!="]
     keyword["if"]; keyword["while"]; keyword["match"]; keyword["return"]
-    head = "(^| )fn [a-z_0-9]+\\("
+    head = "(^| )fn [a-z_0-9]+(<[^(]*>)?\\("
+    variant = "^ +[A-Z][A-Za-z]*( = [0-9]+)?,$"
 }
 
 { code = $0; sub(/ *\/\/.*/, "", code) }
 
 # ---- what all files declare
 
-!mutate && code ~ /^(pub )?(struct|enum) [A-Za-z]+ \{$/ { in_type = 1; owner = $(NF - 1); next }
+!mutate && code ~ /^(pub )?(struct|enum) [A-Za-z]+(<.*>)? \{$/ { in_type = 1; owner = $(NF - 1); next }
 !mutate && in_type && /^\}/ { in_type = 0 }
 !mutate && in_type && code ~ /^ +(pub )?[a-z_]+: .*,$/ { declare_field(owner, code); next }
-!mutate && in_type && code ~ /^ +[A-Z][A-Za-z]*,$/ { declare_member(owner, code, "variant"); next }
+!mutate && in_type && code ~ variant { declare_member(owner, code, "variant"); next }
 !mutate && code ~ /^impl / { owner = $2 }
 !mutate && code ~ /^ +(pub )?const / { declare_member(owner, code, "const") }
 !mutate && code ~ head { declare_function(code) }
@@ -31,6 +32,9 @@ BEGIN {
 
 # ---- the file to mutate
 
+code ~ /^(pub )?enum / { owner = $(NF - 1); in_enum = 1; forget() }
+in_enum && /^\}/ { in_enum = 0 }
+in_enum { place = module() owner "/number"; if (code ~ variant) mutate_line(FNR, code); next }
 code ~ /^impl / { owner = $2 }
 code ~ /^ *(pub )?const / && !in_body { in_const = 1; forget() }
 in_const { place = "-"; mutate_line(FNR, code); if (code ~ /;$/) in_const = 0; next }
@@ -44,8 +48,15 @@ in_body { number[++lines] = FNR; body[lines] = code }
 
 function place_of(text,    name) {
     name = text
-    sub(/.*fn /, "", name); sub(/\(.*/, "", name)
-    return indent(text) ? owner "/" name : name
+    sub(/.*fn /, "", name); sub(/[(<].*/, "", name)
+    return module() (indent(text) ? owner "/" : "") name
+}
+
+# The module of a file beside the root, with a stroke.
+function module(    name) {
+    name = FILENAME
+    sub(/.*\//, "", name); sub(/\.rt$/, "", name)
+    return name ~ /^(lib|main)$/ ? "" : name "/"
 }
 
 function indent(text) { match(text, /^ */); return RLENGTH }
@@ -73,7 +84,7 @@ function declare_field(owner, text,    at, name, type, other) {
 # The variants or constants of a type in a ring: each leads to the next.
 function declare_member(owner, text, kind,    name) {
     name = trimmed(text)
-    sub(/^pub /, "", name); sub(/^const /, "", name); sub(/[,:].*/, "", name)
+    sub(/^pub /, "", name); sub(/^const /, "", name); sub(/[,: ].*/, "", name)
     if ((owner, kind) in first_member) next_member[owner, last_member[owner, kind]] = name
     else first_member[owner, kind] = name
     last_member[owner, kind] = name
@@ -82,7 +93,7 @@ function declare_member(owner, text, kind,    name) {
 
 function declare_function(text) {
     latest_function = text
-    sub(/.*fn /, "", latest_function); sub(/\(.*/, "", latest_function)
+    sub(/.*fn /, "", latest_function); sub(/[(<].*/, "", latest_function)
     if (match(text, /-> [^{]*/)) declare_result(latest_function, substr(text, RSTART + 3, RLENGTH - 3))
 }
 
@@ -100,6 +111,11 @@ function local(name, type) {
 }
 
 function declare_parameters(text,    at, name) {
+    while (match(text, /const [A-Z_]+: [a-z0-9]+/)) {
+        at = index(text, ": ")
+        local(substr(text, RSTART + 6, at - RSTART - 6), substr(text, at + 2, RSTART + RLENGTH - at - 2))
+        text = substr(text, RSTART + RLENGTH)
+    }
     sub(/.*fn [a-z_0-9]+\(/, "", text); sub(/\) ->.*|\)$|\) \{$/, "", text)
     while (match(text, /[a-z_]+: /)) {
         name = substr(text, RSTART, RLENGTH - 2)
@@ -137,7 +153,11 @@ function mutate_body(    i, last) {
     for (i = 1; i <= lines; i++) {
         mutate_line(number[i], body[i])
         if (body[i] ~ /^ *let /) declare_local(body[i])
-        if (body[i] ~ /^ *while .*\{$/ && last ~ /^[a-z_]+$/) edit(number[i], body[i], body[i] " return " last ";")
+        if (body[i] ~ /^ *(for|while) /) in_loop_head = 1
+        if (in_loop_head && body[i] ~ /\{$/) {
+            in_loop_head = 0
+            if (last ~ /^([a-z_]+|Ok\(.*\))$/) edit(number[i], body[i], body[i] " return " last ";")
+        }
     }
 }
 
@@ -150,6 +170,7 @@ function mutate_line(at, text,    i) {
         if (token[i] == "(" && token[i - 1] ~ /^[a-z_]/ && !(token[i - 1] in keyword)) mutate_call(at, text, i)
     }
     if (text ~ /^ *[^ }].*;$/ && text !~ /^ *(let|const|pub) / && balanced(text)) edit(at, text, "")
+    if (text ~ /^ *self as u[0-9]+$/) edit(at, text, text " + 1")
 }
 
 # A declaration's name and type stay.
